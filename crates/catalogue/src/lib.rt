@@ -1,7 +1,9 @@
 // A catalogue file, checked: what it says of slots and sheets, or the first thing that is wrong with it.
 pub mod checked;
 pub mod counts;
+mod entry;
 pub mod fault;
 pub mod make;
+mod read;
 mod record;
 pub mod view;
