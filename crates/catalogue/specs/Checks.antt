@@ -86,10 +86,14 @@ signedFour b = toZ w32 (getD b 0 0 + getD b 1 0 * 256 + getD b 2 0 * 65536 + get
 abbrev pub weightOf : List ℕ → Weight
 weightOf b = record { position = getD b 0 0; option = getD b 1 0; amount = signedTwo (drop 2 b) }
 
--- a weight is of an option of a slot of the scope, from -30,000 to 30,000
+-- from -30,000 to 30,000
+abbrev pub inRange : ℤ → Bool
+inRange z = not (ltZ z (negsuc 29999)) && not (ltZ (pos 30000) z)
+
+-- a weight is of an option of a slot of the scope, and in range
 abbrev pub wellWeighed : List ℕ → List ℕ → Weight → Bool
 wellWeighed options scope w =
-    ltb (w .position) (length scope) && (ltb (w .option) (getD options (getD scope (w .position) 0) 0) && (not (ltZ (w .amount) (negsuc 29999)) && not (ltZ (pos 30000) (w .amount))))
+    ltb (w .position) (length scope) && (ltb (w .option) (getD options (getD scope (w .position) 0) 0) && inRange (w .amount))
 
 -- the newest sheet, if any
 abbrev pub isLoad : Make → Bool

@@ -1,8 +1,10 @@
 -- What the values of the checking program stand for. Assumes nothing.
 use mathlib.Core.Path.{_≡_}
 use mathlib.Core.List.{List, [], _∷_}
+use mathlib.Core.Bool.{not}
 use Prim.Native.Nat.{ℕ, zero, suc, _+_, _*_, _≤_}
-use lib.ListN.{length, take, drop}
+use denote.Ref.{RefT}
+use lib.ListN.{length, getD, take, drop}
 use Rattle.std.specs.declared.result.Result.{Result}
 use Rattle.std.specs.declared.result.Result.the-variants.{Ok, Err}
 use Rattle.catalogue.specs.declared.fault.Fault.{Fault}
@@ -12,7 +14,8 @@ use Rattle.catalogue.specs.declared.record.Record.{Record}
 use Rattle.catalogue.specs.declared.record.Record.the-variants.{Slot, FitHeader, BarHeader, LoadHeader, Row, Weight, End}
 use Rattle.catalogue.specs.declared.entry.Entry.{Entry}
 use Rattle.catalogue.specs.declared.entry.Entry.the-variants.{Slot as SlotEntry, Header, Row as RowEntry, Weight as WeightEntry, End as EndEntry}
-use Rattle.catalogue.specs.Records.{Rec, slot, header, row, weight, end}
+use Rattle.catalogue.specs.Records.{Rec, slot, header, row, weight, end, _when_, judged, between}
+use Rattle.catalogue.specs.Checks.{wellSized, wellScoped, scopeOf}
 
 -- what a record of the program holds
 abbrev pub recordOf : Record → Rec
@@ -57,3 +60,21 @@ Lies bs at (header m b) = Part bs at (headLen m) b
 Lies bs at (row b) = Part bs at 8 b
 Lies bs at (weight b) = Part bs at 4 b
 Lies bs at end = at + 1 ≤ length bs
+
+-- check 6 alone, and checks 7 and 8
+abbrev pub optionsIn : ℕ → List ℕ → Result ℕ Fault
+optionsIn at b = judged at ((6 when not (between 1 32 (getD b 0 0))) ∷ []) (Ok (getD b 0 0))
+
+abbrev pub scopeRead : ℕ → ℕ → List ℕ → Result (List ℕ) Fault
+scopeRead at n b =
+    judged at ((7 when not (wellSized b)) ∷ (8 when not (wellScoped n (scopeOf b))) ∷ []) (Ok (scopeOf b))
+
+-- what a borrowed part holds
+abbrev pub heldBy : Result (RefT (List ℕ)) Fault → Result (List ℕ) Fault
+heldBy (Ok x) = Ok (x .now)
+heldBy (Err f) = Err f
+
+-- the first bytes of the bodies of n records that stand from a place on
+abbrev pub partsFrom : List ℕ → ℕ → ℕ → ℕ → ℕ → List (List ℕ)
+partsFrom bs len step at zero = []
+partsFrom bs len step at (suc n) = take len (drop (at + 1) bs) ∷ partsFrom bs len step (at + step) n

@@ -6,4 +6,5 @@ pub mod fault;
 pub mod make;
 mod read;
 mod record;
+mod sheet;
 pub mod view;
