@@ -6,3 +6,4 @@ pub mod Verdict
 pub mod Law
 pub mod Views
 pub mod Model
+pub mod Steps

@@ -15,7 +15,7 @@ use Rattle.catalogue.specs.declared.record.Record.the-variants.{Slot, FitHeade
 use Rattle.catalogue.specs.declared.entry.Entry.{Entry}
 use Rattle.catalogue.specs.declared.entry.Entry.the-variants.{Slot as SlotEntry, Header, Row as RowEntry, Weight as WeightEntry, End as EndEntry}
 use Rattle.catalogue.specs.Records.{Rec, slot, header, row, weight, end, _when_, judged, between}
-use Rattle.catalogue.specs.Checks.{wellSized, wellScoped, scopeOf}
+use Rattle.catalogue.specs.Checks.{wellSized, wellScoped, scopeOf, wellFilled, wellWeighed, weightOf}
 
 -- what a record of the program holds
 abbrev pub recordOf : Record → Rec
@@ -61,13 +61,20 @@ Lies bs at (row b) = Part bs at 8 b
 Lies bs at (weight b) = Part bs at 4 b
 Lies bs at end = at + 1 ≤ length bs
 
--- check 6 alone, and checks 7 and 8
+-- what the sheet layer reads of a body: check 6, checks 7 and 8, check 9, check 11
 abbrev pub optionsIn : ℕ → List ℕ → Result ℕ Fault
 optionsIn at b = judged at ((6 when not (between 1 32 (getD b 0 0))) ∷ []) (Ok (getD b 0 0))
 
 abbrev pub scopeRead : ℕ → ℕ → List ℕ → Result (List ℕ) Fault
 scopeRead at n b =
     judged at ((7 when not (wellSized b)) ∷ (8 when not (wellScoped n (scopeOf b))) ∷ []) (Ok (scopeOf b))
+
+abbrev pub rowRead : ℕ → List ℕ → List ℕ → List ℕ → Result (List ℕ) Fault
+rowRead at options scope b = judged at ((9 when not (wellFilled options scope b)) ∷ []) (Ok (take (length scope) b))
+
+abbrev pub weightRead : ℕ → List ℕ → List ℕ → List ℕ → Result (List ℕ) Fault
+weightRead at options scope b =
+    judged at ((11 when not (wellWeighed options scope (weightOf b))) ∷ []) (Ok (take 2 b))
 
 -- what a borrowed part holds
 abbrev pub heldBy : Result (RefT (List ℕ)) Fault → Result (List ℕ) Fault

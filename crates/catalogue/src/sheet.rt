@@ -5,7 +5,7 @@ ghost use lib.ListN.{length};
 ghost use Rattle.std.specs.Vec.{made};
 ghost use Rattle.catalogue.specs.Records.{readAt};
 ghost use Rattle.catalogue.specs.Checks.{all, unused, has, hasList, wellScoped, wellFilled, wellWeighed, signedFour, weightOf, inRange};
-ghost use Rattle.catalogue.specs.Model.{enteredAs, entryOf, Lies, partsFrom, optionsIn, scopeRead, heldBy};
+ghost use Rattle.catalogue.specs.Model.{enteredAs, entryOf, Lies, partsFrom, optionsIn, scopeRead, rowRead, weightRead, heldBy};
 use crate::entry::Entry;
 use crate::fault::Fault;
 use crate::make::Make;
@@ -110,7 +110,7 @@ pub(crate) fn scope_of<'a>(body: &'a [u8], slots: u8, at: usize) -> Result<&'a [
 }
 
 // Whether a row has an option for each slot of the scope, and is not used behind them.
-pub(crate) fn well_filled(options: &[u8], scope: &[u8], row: &[u8]) -> bool
+fn well_filled(options: &[u8], scope: &[u8], row: &[u8]) -> bool
     ensures { λ r. ⌜ r ≡ wellFilled (now (options .entry)) (now (scope .entry)) (now (row .entry)) ⌝ }
 {
     let mut i = 0;
@@ -128,6 +128,18 @@ pub(crate) fn well_filled(options: &[u8], scope: &[u8], row: &[u8]) -> bool
         i += 1;
     }
     all_unused(&row[i..])
+}
+
+// Check 9: the options that a row has, a part of its body.
+pub(crate) fn row_of<'a>(options: &[u8], scope: &[u8], body: &'a [u8], at: usize) -> Result<&'a [u8], Fault>
+    ensures is { λ r. ⌜ heldBy r ≡ rowRead at (now (options .entry)) (now (scope .entry)) (now (body .entry)) ⌝ }
+    ensures long { λ r. ⌜ made r (λ key. length (key .now) ≡ length (now (scope .entry))) ⌝ }
+    ensures short { λ r. ⌜ made r (λ key. length (key .now) ≤ length (now (body .entry))) ⌝ }
+{
+    if !well_filled(options, scope, body) {
+        return Err(Fault::sheet(9, at));
+    }
+    Ok(&body[0..scope.len()])
 }
 
 // Whether an earlier record of the sheet has the same key: the records stand from `from` up to `to`,
@@ -164,7 +176,7 @@ fn in_range(amount: i16) -> bool
 }
 
 // Whether a weight is of an option of a slot of the scope, and in range.
-pub(crate) fn well_weighed(options: &[u8], scope: &[u8], body: &[u8]) -> bool
+fn well_weighed(options: &[u8], scope: &[u8], body: &[u8]) -> bool
     requires { ⌜ length (now body) ≡ 4 ⌝ }
     ensures { λ r. ⌜ r ≡ wellWeighed (now (options .entry)) (now (scope .entry)) (weightOf (now (body .entry))) ⌝ }
 {
@@ -180,4 +192,16 @@ pub(crate) fn well_weighed(options: &[u8], scope: &[u8], body: &[u8]) -> bool
         return false;
     }
     in_range(i16::from_le_bytes([body[2], body[3]]))
+}
+
+// Check 11: what a weight is of, its position and option, a part of its body.
+pub(crate) fn weight_of<'a>(options: &[u8], scope: &[u8], body: &'a [u8], at: usize) -> Result<&'a [u8], Fault>
+    requires { ⌜ length (now body) ≡ 4 ⌝ }
+    ensures is { λ r. ⌜ heldBy r ≡ weightRead at (now (options .entry)) (now (scope .entry)) (now (body .entry)) ⌝ }
+    ensures long { λ r. ⌜ made r (λ key. length (key .now) ≡ 2) ⌝ }
+{
+    if !well_weighed(options, scope, body) {
+        return Err(Fault::sheet(11, at));
+    }
+    Ok(&body[0..2])
 }
