@@ -1,28 +1,24 @@
 -- What is sound passes its tests: scopes, rows, weights and signed numbers, as they are written. Assumes nothing.
 use mathlib.Core.Path.{_≡_, refl, sym, ap, subst, _∙_}
-use mathlib.Core.Bool.{Bool, true, false, cond, not, _&&_, _||_}
+use mathlib.Core.Bool.{true, false}
 use mathlib.Core.List.{List, [], _∷_, _++_, append-assoc}
 use Prim.Native.Nat.{ℕ, zero, suc, _+_, _-_, _*_, _/_, _%_, _<_, _≤_}
 use native.Mathlib.Omega.{arith}
 use native.Mathlib.Numerals.{one-add}
 use borrow.Author.Needs.{needs}
-use lib.Dec.{leb, ltb, eqb}
 use lib.IntN.{ℤ, pos, negsuc}
 use lib.ListN.{length, getD, take, drop, replicate}
 use lib.Signed.{_≤ℤ_, ltZ}
 use mir.Val.{ofZ, toZ, SFits}
 use mir.Syntax.{w16, w32}
 use Rattle.std.specs.shelf.Lists.{All}
-use Rattle.std.specs.Orderings.{Decides}
-use Rattle.std.proofs.shelf.Elements.{all-weaker}
 use Rattle.std.proofs.shelf.Equals.{compares-decides}
-use Rattle.std.proofs.shelf.Lists.{length-append, length-replicate, take-at, drop-at, take-append-le, drop-append-le, take-all}
+use Rattle.std.proofs.shelf.Lists.{length-append, length-replicate, take-at, drop-at}
 use Rattle.std.proofs.shelf.Signed.{ints, toZ-ofZ}
 use Rattle.std.proofs.shelf.Tests.{lt-ltb, le-leb, ne-eqb, and-from, or-from, not-true, not-from-false}
 use Rattle.std.proofs.shelf.Ways.{decides-not}
 use Rattle.catalogue.specs.Content.{Weight, Apart, GoodRow, GoodWeight, place, places}
 use Rattle.catalogue.specs.Writing.{padded, twoBytes, fourBytes}
-use Rattle.catalogue.specs.Records.{between}
 use Rattle.catalogue.specs.Checks.{all, has, same, hasList, unused, scopeOf, wellSized, wellScoped, wellFilled, signedTwo, signedFour, weightOf, wellWeighed}
 
 -- signed numbers come back from their bytes
@@ -58,6 +54,7 @@ all-unused : (n : ℕ) → all unused (replicate n 255) ≡ true
 all-unused zero = refl
 all-unused (suc n) = all-unused n
 
+-- a body of eight bytes
 pub length-padded : (xs : List ℕ) → length xs ≤ 8 → length (padded xs) ≡ 8
 length-padded xs h = simp (length-append, length-replicate) (omega arith)
 
@@ -74,6 +71,7 @@ length-row options [] (x ∷ xs) g = absurd g
 length-row options (s ∷ ss) [] g = absurd g
 length-row options (s ∷ ss) (x ∷ xs) g = ap suc (length-row options ss xs (g .1))
 
+-- a row comes back from its body
 pub row-back : (options scope xs : List ℕ) → GoodRow options scope xs → take (length scope) (padded xs) ≡ xs
 row-back options scope xs g = take-at xs _ (length scope) (length-row options scope xs g)
 
@@ -90,17 +88,21 @@ list-none x [] a = refl
 list-none x (y ∷ ys) a = or-from _ _ (same-not x y (a .0)) (list-none x ys (a .1))
 
 -- what holds of each element holds of one between others
-pub all-mid : {X : Type 0} (P : X → Type 0) (done : List X) (x : X) (left : List X) → All P (done ++ x ∷ left) → P x
-all-mid P [] x left a = a .0
-all-mid P (y ∷ done) x left a = all-mid P done x left (a .1)
+pub all-mid : {X : Type 0} {all : List X} (P : X → Type 0) (done : List X) (x : X) (left : List X) → done ++ x ∷ left ≡ all → All P all → P x
+all-mid {X} P done x left e a = among done (subst (All P) (sym e) a)
+  where
+    among : (before : List X) → All P (before ++ x ∷ left) → P x
+    among [] h = h .0
+    among (y ∷ before) h = among before (h .1)
 
 -- none of the elements before one is the same
 before-none : {X : Type 0} (done : List X) (x : X) (left : List X) → Apart (done ++ x ∷ left) → All (λ y. x ≡ y → ⊥) done
 before-none [] x left a = tt
-before-none (y ∷ done) x left a = (λ e. all-mid (λ z. y ≡ z → ⊥) done x left (a .0) (sym e), before-none done x left (a .1))
+before-none (y ∷ done) x left a = (λ e. all-mid (λ z. y ≡ z → ⊥) done x left refl (a .0) (sym e), before-none done x left (a .1))
 
-pub not-yet : (done : List (List ℕ)) (x : List ℕ) (left : List (List ℕ)) → Apart (done ++ x ∷ left) → hasList x done ≡ false
-not-yet done x left a = list-none x done (before-none done x left a)
+-- an element of a list without repeats is not found among those before it
+pub not-yet : {all : List (List ℕ)} (done : List (List ℕ)) (x : List ℕ) (left : List (List ℕ)) → done ++ x ∷ left ≡ all → Apart all → hasList x done ≡ false
+not-yet done x left e a = list-none x done (before-none done x left (subst Apart (sym e) a))
 
 -- a scope's own test
 pub scopes-well : (n : ℕ) (ss : List ℕ) → All (λ s. s < n) ss → Apart ss → wellScoped n ss ≡ true
@@ -122,6 +124,7 @@ module _ (ss tail : List ℕ) (some : 1 ≤ length ss) (few : length ss ≤ 8) w
   pub tail-back : drop 9 (length ss ∷ padded ss ++ tail) ≡ tail
   tail-back = drop-at (padded ss) tail 8 (length-padded ss few)
 
+-- what the weights of two lists are of
 pub places-append : (vs ws : List Weight) → places (vs ++ ws) ≡ places vs ++ places ws
 places-append [] ws = refl
 places-append (v ∷ vs) ws = ap (λ l. place v ∷ l) (places-append vs ws)

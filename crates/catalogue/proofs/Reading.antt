@@ -1,30 +1,29 @@
 -- How the bytes of a record, and of one record after another, are read at the end of any file. Assumes nothing.
 use mathlib.Core.Path.{_≡_, refl, sym, ap, subst, _∙_}
-use mathlib.Core.Bool.{Bool, true, false, cond, not, _&&_}
+use mathlib.Core.Bool.{Bool, false}
 use mathlib.Core.List.{List, [], _∷_, _++_, append-nil, append-assoc}
-use Prim.Native.Nat.{ℕ, zero, suc, _+_, _-_, _<_, _≤_}
+use Prim.Native.Nat.{ℕ, zero, suc, _+_, _<_, _≤_}
 use native.Mathlib.Omega.{arith}
 use native.Mathlib.Nat.{add-zero}
-use lib.Dec.{leb, ltb, eqb}
 use lib.ListN.{length, getD, take, drop}
 use Rattle.std.specs.Joined.{joined}
 use Rattle.std.specs.declared.result.Result.{Result}
-use Rattle.std.specs.declared.result.Result.the-variants.{Ok, Err}
+use Rattle.std.specs.declared.result.Result.the-variants.{Ok}
 use Rattle.std.proofs.shelf.Lists.{getD-drop, drop-drop, take-at, drop-at, length-drop, length-append}
 use Rattle.std.proofs.shelf.Tests.{lt-leb, le-leb, and-from, not-from-true}
 use Rattle.catalogue.specs.declared.fault.Fault.{Fault}
 use Rattle.catalogue.specs.Content.{Content}
-use Rattle.catalogue.specs.Records.{Rec, slot, header, row, weight, end, Check, _when_, judged, between, bodyLen, named, kindAt, recordAt, reading, sizeOf}
+use Rattle.catalogue.specs.Records.{Rec, slot, header, row, weight, end, Check, _when_, judged, bodyLen, named, kindAt, recordAt, reading, sizeOf}
 use Rattle.catalogue.specs.Checks.{Said, contentOf, checks, after}
 use Rattle.catalogue.specs.Verdict.{follow, behind, contentFrom}
 use Rattle.catalogue.specs.Law.{Passes, none, next, Inner}
 
 -- a check whose test is false passes
-pub passes : {cs : List Check} (n : ℕ) (t : Bool) → t ≡ false → Passes cs → Passes ((n when t) ∷ cs)
-passes {cs} n t e p = subst (λ b. Passes ((n when b) ∷ cs)) (sym e) (next p)
+pub passes : {t : Bool} {cs : List Check} (n : ℕ) → t ≡ false → Passes cs → Passes ((n when t) ∷ cs)
+passes {t} {cs} n e p = subst (λ b. Passes ((n when b) ∷ cs)) (sym e) (next p)
 
 -- what comes is not refused where all checks pass
-judged-passes : {X : Type 0} {cs : List Check} (at : ℕ) (r : Result X Fault) → Passes cs → judged at cs r ≡ r
+pub judged-passes : {X : Type 0} {cs : List Check} (at : ℕ) (r : Result X Fault) → Passes cs → judged at cs r ≡ r
 judged-passes at r none = refl
 judged-passes at r (next p) = judged-passes at r p
 
@@ -63,9 +62,9 @@ module _ (bs : List ℕ) (at k : ℕ) (b rest : List ℕ) (x : Rec) (here : drop
       let kind = kind-here in
       let long = length-here in
       let body = ap bodyLen kind ∙ sym (f .long) in
-      passes 1 (leb (length bs) at) (lt-leb (length bs) at (omega arith))
-      (passes 2 (not (between 1 7 (kindAt bs at))) (not-from-true _ (and-from _ _ (le-leb 1 (kindAt bs at) (omega (arith, f .low))) (le-leb (kindAt bs at) 7 (omega (arith, f .high)))))
-      (passes 3 (leb (length bs - at) (bodyLen (kindAt bs at))) (lt-leb _ _ (omega arith)) none))
+      passes 1 (lt-leb (length bs) at (omega arith))
+      (passes 2 (not-from-true _ (and-from _ _ (le-leb 1 (kindAt bs at) (omega (arith, f .low))) (le-leb (kindAt bs at) 7 (omega (arith, f .high)))))
+      (passes 3 (lt-leb _ _ (omega arith)) none))
 
   -- the record is read, and its own checks decide
   read-here : (n : ℕ) (s : Said) → contentFrom (suc n) bs at s ≡ judged at (checks (length b + length rest) s x) (follow (contentFrom n bs) at s x)
@@ -76,6 +75,7 @@ module _ (bs : List ℕ) (at k : ℕ) (b rest : List ℕ) (x : Rec) (here : drop
 pub record Gives (rest : List ℕ) (s : Said) (r : Result Content Fault) : Type 0 where
   pub says : (bs : List ℕ) (at n : ℕ) → drop at bs ≡ rest → length rest < n → contentFrom n bs at s ≡ r
 
+-- a record that is not the end is followed by the next
 follow-inner : (go : ℕ → Said → Result Content Fault) (at : ℕ) (s : Said) (x : Rec) → Inner x → follow go at s x ≡ go (at + sizeOf x) (after s x)
 follow-inner go at s (slot b) i = refl
 follow-inner go at s (header m b) i = refl
@@ -98,11 +98,13 @@ gives-end s p = record { says = go }
   where
     framed : Framed 7 [] end
     framed = record { low = omega arith; high = omega arith; long = refl; is = refl; size = refl }
+
     go : (bs : List ℕ) (at n : ℕ) → drop at bs ≡ 7 ∷ [] → length {A = ℕ} (7 ∷ []) < n → contentFrom n bs at s ≡ Ok (contentOf s)
     go bs at zero here h = absurd (omega arith)
     go bs at (suc n) here h = read-here bs at 7 [] [] end here framed n s ∙ judged-passes at _ p
 
--- What a list is written as is read one element after another. G says of those read and of the bytes left that they go well.
+-- What a list is written as goes well from its front, where it goes well by one element after another.
+-- G says of the elements read and the bytes left that they go well.
 pub one-by-one : {X : Type 0} (f : X → List ℕ) (G : List X → List ℕ → Type 0) (all : List X) → ((done : List X) (x : X) (left : List X) → done ++ x ∷ left ≡ all → (rest : List ℕ) → G (done ++ x ∷ []) rest → G done (f x ++ rest)) → (rest : List ℕ) → G all rest → G [] (joined f all ++ rest)
 one-by-one {X} f G all step rest g = from [] all refl g
   where
