@@ -1,2 +1,5 @@
 pub mod Tests
 pub mod Stepping
+pub mod Reading
+pub mod Passing
+pub mod Complete
