@@ -17,6 +17,7 @@ use Rattle.std.proofs.shelf.Lists.{take-append-drop, take-take, drop-drop, drop
 use Rattle.std.proofs.shelf.Signed.{ints, ofZ-toZ}
 use Rattle.catalogue.specs.declared.make.Make.{Make}
 use Rattle.catalogue.specs.declared.make.Make.the-variants.{Fit, Bar, Load}
+use Rattle.catalogue.specs.Content.{place}
 use Rattle.catalogue.specs.Records.{between, headerSize}
 use Rattle.catalogue.specs.Writing.{padded, twoBytes, fourBytes, capBytes, headBytes, rowBytes, weightBytes}
 use Rattle.catalogue.specs.Checks.{all, unused, scopeOf, wellSized, wellFilled, signedTwo, signedFour, weightOf, capOf, fresh}
@@ -32,6 +33,10 @@ octets-take n bs o i =
     (λ low. subst (λ x. x < 256) (sym (getD-take n bs i 0 low)) (o i))
     (λ high. subst (λ x. x < 256) (sym (getD-past (take n bs) i 0 (omega (arith, length-take n bs)))) (omega arith))
     (cases-lt i n)
+
+pub octets-cons : (x : ℕ) (xs : List ℕ) → x < 256 → Octets xs → Octets (x ∷ xs)
+octets-cons x xs h o zero = h
+octets-cons x xs h o (suc i) = o i
 
 -- A signed number that was read is written as the bytes that it was read from.
 two-back : (a b : ℕ) → a < 256 → b < 256 → twoBytes (toZ w16 (a + b * 256)) ≡ a ∷ b ∷ []
@@ -85,6 +90,10 @@ cap-fits Load b o =
 pub weight-back : (b : List ℕ) → length b ≡ 4 → Octets b → weightBytes (weightOf b) ≡ 6 ∷ b
 weight-back b long o =
     by-four (λ l. Octets l → weightBytes (weightOf l) ≡ 6 ∷ l) (λ v w x y p. ap (λ l. 6 ∷ v ∷ w ∷ l) (two-back x y (p 2) (p 3))) b long o
+
+-- what a weight is of stands in its first two bytes
+pub place-back : (b : List ℕ) → length b ≡ 4 → take 2 b ≡ place (weightOf b)
+place-back b long = by-four (λ l. take 2 l ≡ place (weightOf l)) (λ v w x y. refl) b long
 
 -- bytes that are not used
 unused-are : (xs : List ℕ) → all unused xs ≡ true → xs ≡ replicate (length xs) 255
@@ -144,8 +153,15 @@ scope-back b nine e =
     let behind : drop k xs ≡ take (8 - k) (drop (1 + k) b) = ap (λ n. drop k (take n (drop 1 b))) (sym sum) ∙ drop-take k (8 - k) (drop 1 b) ∙ ap (take (8 - k)) (drop-drop k 1 b) in
     ap padded (sym front) ∙ padded-front k xs eight (z .high) (ap (all unused) behind ∙ z .rest)
 
+-- a header's body has nine bytes or more
+pub header-long : (m : Make) (n : ℕ) → n + 1 ≡ headerSize m → 9 ≤ n
+header-long Fit n e = omega arith
+header-long Bar n e = omega arith
+header-long Load n e = omega arith
+
 -- A header's body is written back, of any make.
-pub header-back : (m : Make) (b : List ℕ) → length b + 1 ≡ headerSize m → 9 ≤ length b → Octets b → wellSized b ≡ true → headBytes (fresh m b) ≡ b
-header-back m b long nine o e =
+pub header-back : (m : Make) (b : List ℕ) → length b + 1 ≡ headerSize m → Octets b → wellSized b ≡ true → headBytes (fresh m b) ≡ b
+header-back m b long o e =
+    let nine = header-long m (length b) long in
     let z = sizes b nine e in
     ap (λ n. n ∷ padded (scopeOf b) ++ capBytes m (capOf m b)) (z .long) ∙ ap (λ l. getD b 0 0 ∷ l ++ capBytes m (capOf m b)) (scope-back b nine e) ∙ ap (λ l. getD b 0 0 ∷ take 8 (drop 1 b) ++ l) (cap-of m b long o ∙ sym (drop-drop 8 1 b)) ∙ ap (λ l. getD b 0 0 ∷ l) (take-append-drop 8 (drop 1 b)) ∙ sym (drop-more b 0 0 (omega arith))

@@ -1,3 +1,4 @@
 pub mod Run
 pub mod Bodies
 pub mod Good
+pub mod Sound
