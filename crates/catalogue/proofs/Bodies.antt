@@ -1,26 +1,24 @@
 -- That the body of a record that passes its checks is the writing of what it says. Assumes nothing.
 use mathlib.Core.Path.{_≡_, refl, sym, ap, subst, _∙_}
-use mathlib.Core.Bool.{Bool, true, false, cond, not, _&&_, _||_}
-use mathlib.Core.Logic.{_⊎_, inl, inr, ⊎-elim}
+use mathlib.Core.Bool.{true}
+use mathlib.Core.Logic.{⊎-elim}
 use mathlib.Core.List.{List, [], _∷_, _++_}
 use Prim.Native.Nat.{ℕ, zero, suc, _+_, _-_, _*_, _/_, _%_, _^_, _<_, _≤_}
 use native.Mathlib.Omega.{arith}
-use lib.Dec.{eqb, leb, ltb}
-use lib.IntN.{ℤ, pos, negsuc}
+use lib.Dec.{leb}
 use lib.ListN.{length, getD, take, drop, replicate}
-use lib.Seq.{take-add}
 use mir.Val.{toZ, ofZ, SFits}
 use mir.Syntax.{w16, w32}
 use mir.Facts.{sfits-toZ, sfits-lit}
 use Rattle.std.proofs.shelf.Tests.{eqb-true, and-parts, leb-true, cases-lt}
-use Rattle.std.proofs.shelf.Lists.{take-append-drop, take-take, drop-drop, drop-take, drop-more, drop-all, length-take, length-take-le, length-drop, append-assoc, getD-take, getD-drop, getD-past}
-use Rattle.std.proofs.shelf.Signed.{ints, ofZ-toZ}
+use Rattle.std.proofs.shelf.Lists.{take-append-drop, take-take, drop-drop, drop-take, drop-more, drop-all, length-take, length-take-le, length-drop, getD-take, getD-drop, getD-past}
+use Rattle.std.proofs.shelf.Signed.{ofZ-toZ}
 use Rattle.catalogue.specs.declared.make.Make.{Make}
 use Rattle.catalogue.specs.declared.make.Make.the-variants.{Fit, Bar, Load}
 use Rattle.catalogue.specs.Content.{place}
 use Rattle.catalogue.specs.Records.{between, headerSize}
 use Rattle.catalogue.specs.Writing.{padded, twoBytes, fourBytes, capBytes, headBytes, rowBytes, weightBytes}
-use Rattle.catalogue.specs.Checks.{all, unused, scopeOf, wellSized, wellFilled, signedTwo, signedFour, weightOf, capOf, fresh}
+use Rattle.catalogue.specs.Checks.{all, unused, scopeOf, wellSized, wellFilled, signedFour, weightOf, capOf, fresh}
 use Rattle.catalogue.specs.Law.{Octets}
 
 -- a part of a list of bytes is one too

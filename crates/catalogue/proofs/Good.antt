@@ -1,14 +1,14 @@
 -- That scopes, rows and weights that pass the tests of a file are good, and that a good sheet stays good with one more. Assumes nothing.
-use mathlib.Core.Path.{_≡_, refl, sym, ap, subst, _∙_}
-use mathlib.Core.Bool.{Bool, true, false, cond, not, _&&_, _||_}
+use mathlib.Core.Path.{_≡_, refl, sym, ap, subst}
+use mathlib.Core.Bool.{true, false, not}
 use mathlib.Core.List.{List, [], _∷_, _++_}
-use Prim.Native.Nat.{ℕ, zero, suc, _+_, _<_, _≤_}
+use Prim.Native.Nat.{ℕ, _<_, _≤_}
 use native.Mathlib.Omega.{arith}
 use borrow.Author.Needs.{needs}
-use lib.Dec.{eqb, leb, ltb}
-use lib.IntN.{ℤ, pos, negsuc}
-use lib.Signed.{ltZ, _≤ℤ_}
-use lib.ListN.{length, getD, take, drop}
+use lib.Dec.{eqb, ltb}
+use lib.IntN.{negsuc}
+use lib.Signed.{ltZ}
+use lib.ListN.{length, getD, take}
 use Rattle.std.specs.shelf.Lists.{All}
 use Rattle.std.proofs.shelf.Elements.{all-push}
 use Rattle.std.proofs.shelf.Equals.{compares-decides}
@@ -18,7 +18,7 @@ use Rattle.std.proofs.shelf.Ways.{not-from-decides}
 use Rattle.catalogue.specs.declared.make.Make.{Make}
 use Rattle.catalogue.specs.declared.make.Make.the-variants.{Fit, Bar, Load}
 use Rattle.catalogue.specs.Content.{Weight, Sheet, Apart, GoodRow, GoodWeight, GoodSheet, Lacks, place, places}
-use Rattle.catalogue.specs.Checks.{has, same, hasList, wellScoped, wellFilled, wellWeighed, weightOf, scopeOf, isLoad, capOf, fresh, wellSized}
+use Rattle.catalogue.specs.Checks.{has, same, hasList, wellScoped, wellFilled, wellWeighed, scopeOf, isLoad, fresh, wellSized}
 use Rattle.catalogue.specs.Law.{Octets}
 use Rattle.catalogue.proofs.Bodies.{sizes, cap-fits}
 

@@ -1,19 +1,19 @@
 -- What a run over the records of a file gives: the end that was accepted, or the first check that failed. Assumes nothing.
 use mathlib.Core.Path.{_≡_, refl, sym, ap, subst, _∙_}
-use mathlib.Core.Bool.{Bool, true, false, cond, not, _&&_, _||_}
+use mathlib.Core.Bool.{Bool, true, false, cond, _||_}
 use mathlib.Core.Logic.{_⊎_, inl, inr, ⊎-elim}
-use mathlib.Core.List.{List, [], _∷_, _++_}
+use mathlib.Core.List.{List, [], _∷_}
 use Prim.Native.Nat.{ℕ, zero, suc, _+_, _-_, _<_, _≤_}
 use native.Mathlib.Omega.{arith}
-use lib.Dec.{eqb, leb, ltb}
-use lib.ListN.{length, getD, take, drop}
+use lib.Dec.{eqb}
+use lib.ListN.{length, take, drop}
 use Rattle.std.specs.declared.result.Result.{Result}
 use Rattle.std.specs.declared.result.Result.the-variants.{Ok, Err}
 use Rattle.std.proofs.shelf.Tests.{leb-true, leb-false, or-left, or-right, eq-eqb, both-ways, not-false}
 use Rattle.catalogue.specs.declared.fault.Fault.{Fault}
 use Rattle.catalogue.specs.declared.make.Make.the-variants.{Fit, Bar, Load}
 use Rattle.catalogue.specs.Content.{Content}
-use Rattle.catalogue.specs.Records.{Rec, slot, header, row, weight, end, Check, _when_, faultAt, judged, between, bodyLen, named, kindAt, reading, recordAt, sizeOf}
+use Rattle.catalogue.specs.Records.{Rec, slot, header, row, weight, end, Check, _when_, faultAt, judged, between, bodyLen, named, kindAt, recordAt, sizeOf}
 use Rattle.catalogue.specs.Checks.{Said, nothing, contentOf, checks, after}
 use Rattle.catalogue.specs.Verdict.{behind, follow, contentFrom, content}
 use Rattle.catalogue.specs.Law.{checksAt, Passes, none, next, First, here, later, Inner, Passed, start, step, FirstFault}

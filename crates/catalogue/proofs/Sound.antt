@@ -1,18 +1,17 @@
 -- That accepted bytes are the writing of a sound list of slots and sheets. Assumes nothing.
 use mathlib.Core.Path.{_≡_, refl, sym, ap, subst, _∙_}
-use mathlib.Core.Bool.{Bool, true, false, cond, not, _&&_, _||_}
+use mathlib.Core.Bool.{Bool, true, false, cond, _&&_}
 use mathlib.Core.List.{List, [], _∷_, _++_}
-use Prim.Native.Nat.{ℕ, zero, suc, _+_, _-_, _<_, _≤_}
+use Prim.Native.Nat.{ℕ, suc, _+_, _≤_}
 use native.Mathlib.Omega.{arith}
-use lib.Dec.{eqb, leb, ltb}
+use lib.Dec.{eqb, leb}
 use lib.ListN.{length, getD, take, drop}
 use lib.Seq.{take-add}
 use Rattle.std.specs.Joined.{joined}
 use Rattle.std.specs.shelf.Lists.{All}
 use Rattle.std.specs.declared.option.Option.{Option}
 use Rattle.std.specs.declared.option.Option.the-variants.{Some, None}
-use Rattle.std.specs.declared.result.Result.{Result}
-use Rattle.std.specs.declared.result.Result.the-variants.{Ok, Err}
+use Rattle.std.specs.declared.result.Result.the-variants.{Ok}
 use Rattle.std.proofs.shelf.Elements.{all-push}
 use Rattle.std.proofs.shelf.Lists.{append-assoc, append-nil, joined-more, take-more, take-all, length-push, length-take-le, length-drop, nil-from-length}
 use Rattle.std.proofs.shelf.Tests.{and-parts, or-parts, not-true, not-false, false≢true, leb-true, leb-false, ltb-false, eqb-true, eqb-false}
@@ -20,10 +19,10 @@ use Rattle.catalogue.specs.declared.make.Make.{Make}
 use Rattle.catalogue.specs.declared.make.Make.the-variants.{Fit, Bar, Load}
 use Rattle.catalogue.specs.Content.{Weight, Sheet, Content, rowsIn, isOne, loadsIn, places, Lacks, GoodSheet, Sound}
 use Rattle.catalogue.specs.Writing.{slotBytes, rowBytes, weightBytes, kindOf, headBytes, entryBytes, sheetBytes, written}
-use Rattle.catalogue.specs.Records.{Rec, slot, header, row, weight, end, between, bodyLen, named, kindAt, recordAt, headerSize, sizeOf}
-use Rattle.catalogue.specs.Checks.{Said, nothing, listed, sheetsOf, contentOf, wellSized, wellScoped, scopeOf, weightOf, hasList, wellWeighed, isLoad, fresh, checks, after}
+use Rattle.catalogue.specs.Records.{Rec, slot, header, row, weight, end, bodyLen, named, kindAt, recordAt, headerSize, sizeOf}
+use Rattle.catalogue.specs.Checks.{Said, nothing, listed, sheetsOf, wellSized, wellScoped, scopeOf, weightOf, hasList, wellWeighed, isLoad, fresh, checks, after}
 use Rattle.catalogue.specs.Verdict.{behind, content}
-use Rattle.catalogue.specs.Law.{Octets, checksAt, Passes, none, next, Inner, Passed, start, step}
+use Rattle.catalogue.specs.Law.{Octets, checksAt, Passes, Inner, Passed, start, step}
 use Rattle.catalogue.proofs.Run.{ended, Read, read, size-named, first-passed, rest-passed}
 use Rattle.catalogue.proofs.Bodies.{octets-cons, octets-drop, octets-take, weight-back, place-back, row-back, header-long, header-back}
 use Rattle.catalogue.proofs.Good.{sheet-fresh, withRow, sheet-row, withWeight, sheet-weight}
