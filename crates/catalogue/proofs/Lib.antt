@@ -1,5 +1,10 @@
 pub mod Tests
 pub mod Stepping
+pub mod Judging
 pub mod Reading
 pub mod Passing
 pub mod Complete
+pub mod Run
+pub mod Bodies
+pub mod Good
+pub mod Sound
