@@ -8,3 +8,4 @@ pub mod Run
 pub mod Bodies
 pub mod Good
 pub mod Sound
+pub mod Meaning

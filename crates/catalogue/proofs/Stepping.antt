@@ -4,7 +4,7 @@ use mathlib.Core.Bool.{Bool, true, false, cond, not, _&&_, _||_}
 use mathlib.Core.List.{List, [], _∷_, _++_}
 use Prim.Native.Nat.{ℕ, zero, suc, _+_, _*_, _-_, _<_, _≤_}
 use native.Mathlib.Omega.{arith}
-use lib.Dec.{leb, lit≤}
+use lib.Dec.{leb, lit<, lit≤}
 use Rattle.std.proofs.shelf.Lists.{take-take}
 use Rattle.std.proofs.shelf.Tests.{false≢true}
 use Rattle.std.proofs.shelf.Ways.{tells}
@@ -221,3 +221,8 @@ pub record HeadMore (ts : List Sheet) (t : Sheet) : Type 0 where
 pub head-more : (ts : List Sheet) (t : Sheet) → HeadMore ts t
 head-more ts t =
     record { sheets = simp length-append; loads = rw loads-append (omega arith); rows = rw rows-append (omega arith) }
+
+pub head-some : (m : Make) → 0 < headerSize m
+head-some Fit = lit< tt
+head-some Bar = lit< tt
+head-some Load = lit< tt

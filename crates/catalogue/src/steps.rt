@@ -69,7 +69,7 @@ impl<'a> Progress<'a> {
     // One sheet more, which is the newest from now on.
     pub(crate) fn add_header(&mut self, make: Make, body: &'a [u8], at: usize) -> Result<(), Fault>
         requires size { ⌜ length (now body) ≡ headLen make ⌝ }
-        requires room { ⌜ at + 14 < 2 ^ 64 ⌝ }
+        requires room { ⌜ at + (headLen make + 1) < 2 ^ 64 ⌝ }
         ensures { λ r. ⌜ ((bs : List ℕ) → Steps bs at (header make (now (body .entry))) r (now (self .entry)) (now (self .exit))) ⌝ }
     {
         if self.sheets >= SHEETS {
