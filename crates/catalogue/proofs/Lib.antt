@@ -1,0 +1,5 @@
+pub mod Assumed
+pub mod Held
+pub mod Laid
+pub mod Scan
+pub mod Told

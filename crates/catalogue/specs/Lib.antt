@@ -5,3 +5,4 @@ pub mod Checks
 pub mod Verdict
 pub mod Law
 pub mod Views
+pub mod Places
