@@ -1,6 +1,6 @@
 -- What a checked catalogue holds: its bytes are the writing of a sound list, and its counts are that list's.
-use mathlib.Core.Path.{_≡_, refl}
-use mathlib.Core.Bool.{Bool, true, false, _&&_}
+use mathlib.Core.Path.{_≡_, refl, ap}
+use mathlib.Core.Bool.{true}
 use mathlib.Core.List.{List}
 use Prim.Native.Nat.{ℕ}
 use native.Mathlib.Omega.{arith}
@@ -12,7 +12,7 @@ use Rattle.catalogue.specs.declared.counts.Counts.{Counts}
 use Rattle.catalogue.specs.declared.fault.Fault.{Fault}
 use Rattle.catalogue.specs.Content.{Content, Sound}
 use Rattle.catalogue.specs.Writing.{written}
-use Rattle.catalogue.specs.Verdict.{onward, content, countsOf, gives, accepts}
+use Rattle.catalogue.specs.Verdict.{onward, content, countsOf, verdict, gives, accepts}
 use Rattle.catalogue.specs.Law.{Octets}
 use Rattle.catalogue.proofs.Assumed.{sound}
 
@@ -25,6 +25,14 @@ pub record Held (bs : List ℕ) (c : Counts) : Type 0 where
 
 given : (d c : Counts) → gives (Ok d) c ≡ true → d ≡ c
 given d c e = grind (arith, tells)
+
+-- the verdict on accepted bytes gives their counts
+pub verdict-is : (bs : List ℕ) (c : Counts) → accepts bs c ≡ true → verdict bs ≡ Ok c
+verdict-is bs c a = by (verdict bs) a
+  where
+    by : (r : Result Counts Fault) → gives r c ≡ true → r ≡ Ok c
+    by (Ok d) h = ap Ok (given d c h)
+    by (Err f) h = absurd (false≢true h)
 
 pub held : (bs : List ℕ) (c : Counts) → accepts bs c ≡ true → Octets bs → Held bs c
 held bs c a o = by (content bs) refl a

@@ -24,11 +24,11 @@ use Rattle.catalogue.specs.Checks.{signedFour, scopeOf, capOf}
 use Rattle.catalogue.specs.Places.{past, isEntry, Entries, none, more, Lies, Ahead, end, next}
 
 -- the slots
-pub length-slots : (os : List ℕ) → length (joined slotBytes os) ≡ 2 * length os
+length-slots : (os : List ℕ) → length (joined slotBytes os) ≡ 2 * length os
 length-slots [] = refl
 length-slots (n ∷ os) = omega (arith, length-slots os)
 
-pub slot-read : (os rest : List ℕ) (i : ℕ) → i < length os → getD (joined slotBytes os ++ rest) (2 * i + 1) 0 ≡ getD os i 0
+slot-read : (os rest : List ℕ) (i : ℕ) → i < length os → getD (joined slotBytes os ++ rest) (2 * i + 1) 0 ≡ getD os i 0
 slot-read [] rest i h = absurd (omega arith)
 slot-read (n ∷ os) rest zero h = refl
 slot-read (n ∷ os) rest (suc i) h =

@@ -1,8 +1,8 @@
 -- Steps of a scan over the records of a file. Assumes nothing.
-use mathlib.Core.Path.{_≡_, refl, sym, ap, subst, _∙_}
+use mathlib.Core.Path.{_≡_, refl, sym, ap, _∙_}
 use mathlib.Core.Bool.{true, false}
 use mathlib.Core.List.{List}
-use Prim.Native.Nat.{ℕ, _+_, _*_, _-_, _<_, _≤_}
+use Prim.Native.Nat.{ℕ, _+_, _*_, _<_, _≤_}
 use native.Mathlib.Omega.{arith}
 use lib.IntN.{ℤ}
 use lib.ListN.{length, getD, take, drop}
@@ -13,9 +13,9 @@ use Rattle.std.proofs.shelf.Tests.{both-ways}
 use Rattle.catalogue.specs.declared.make.Make.{Make}
 use Rattle.catalogue.specs.declared.make.Make.the-variants.{Fit, Bar, Load}
 use Rattle.catalogue.specs.Content.{Sheet}
-use Rattle.catalogue.specs.Writing.{kindOf, entryBytes}
+use Rattle.catalogue.specs.Writing.{kindOf}
 use Rattle.catalogue.specs.Records.{kindAt}
-use Rattle.catalogue.specs.Checks.{signedFour, scopeOf, capOf}
+use Rattle.catalogue.specs.Checks.{capOf}
 use Rattle.catalogue.specs.Views.{Shown}
 use Rattle.catalogue.specs.Places.{past, isEntry, Entries, none, more, Lies}
 

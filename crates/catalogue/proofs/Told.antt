@@ -1,13 +1,12 @@
 -- What the accessors of a checked catalogue answer, from the list that its bytes are the writing of.
 use mathlib.Core.Path.{_≡_, refl, sym, ap, subst, _∙_}
-use mathlib.Core.Bool.{Bool, true, false, cond}
+use mathlib.Core.Bool.{cond}
 use mathlib.Core.List.{List, [], _∷_}
-use Prim.Native.Nat.{ℕ, zero, suc, _+_, _*_, _-_, _<_, _≤_}
+use Prim.Native.Nat.{ℕ, suc, _+_, _*_, _-_, _<_, _≤_}
 use native.Mathlib.Omega.{arith}
 use lib.Dec.{eqb}
 use lib.ListN.{length, getD}
 use Rattle.std.specs.Finite.{nth}
-use Rattle.std.specs.declared.option.Option.{Option}
 use Rattle.std.specs.declared.option.Option.the-variants.{Some, None}
 use Rattle.std.proofs.shelf.Maps.{nth-getD, nth-past}
 use Rattle.std.proofs.shelf.Tests.{eq-eqb, ne-eqb}
@@ -15,14 +14,14 @@ use Rattle.catalogue.specs.declared.counts.Counts.{Counts}
 use Rattle.catalogue.specs.declared.make.Make.{Make}
 use Rattle.catalogue.specs.declared.make.Make.the-variants.{Fit, Bar, Load}
 use Rattle.catalogue.specs.Content.{Sheet}
-use Rattle.catalogue.specs.Writing.{kindOf, written}
+use Rattle.catalogue.specs.Writing.{kindOf}
 use Rattle.catalogue.specs.Records.{kindAt}
-use Rattle.catalogue.specs.Verdict.{content, countsOf}
+use Rattle.catalogue.specs.Verdict.{content}
 use Rattle.catalogue.specs.Views.{Shown, isMake, ofMake, showing, showingOf, optionsSaid, countSaid, sheetSaid}
-use Rattle.catalogue.specs.Places.{past, Lies, SheetAt, Ahead, end, next}
+use Rattle.catalogue.specs.Places.{Lies, SheetAt, Ahead, end, next}
 use Rattle.catalogue.proofs.Held.{Held}
 use Rattle.catalogue.proofs.Laid.{slots-inside, slots-read, sheets-lie}
-use Rattle.catalogue.proofs.Scan.{entries-start, entries-order, entries-end}
+use Rattle.catalogue.proofs.Scan.{entries-order}
 
 -- the slots
 module _ (bs : List ℕ) (c : Counts) where

@@ -4,7 +4,7 @@ use mathlib.Core.Bool.{Bool, true, false, _||_}
 use mathlib.Core.List.{List, [], _∷_}
 use Prim.Native.Nat.{ℕ, _+_, _-_, _<_, _≤_}
 use lib.Dec.{eqb}
-use lib.ListN.{length, take, drop}
+use lib.ListN.{length, getD, take, drop}
 use Rattle.catalogue.specs.Content.{Sheet}
 use Rattle.catalogue.specs.Writing.{kindOf, entryBytes}
 use Rattle.catalogue.specs.Records.{bodyLen, kindAt}
@@ -27,7 +27,7 @@ pub data Entries (bs : List ℕ) : ℕ → ℕ → Type 0 where
 pub record Lies (bs : List ℕ) (at : ℕ) (t : Sheet) (to : ℕ) : Type 0 where
   pub header : past bs at < length bs
   pub kind : kindAt bs at ≡ kindOf (t .make)
-  pub few : kindAt bs (at + 1) ≤ 8
+  pub few : getD bs (at + 1) 0 ≤ 8  -- so many slots it names
   pub scope : scopeOf (drop (at + 1) bs) ≡ t .scope
   pub «cap» : capOf (t .make) (drop (at + 1) bs) ≡ t .«cap»
   pub entries : Entries bs (past bs at) to

@@ -13,30 +13,42 @@ use crate::counts::Counts;
 use crate::make::Make;
 use crate::view::View;
 
+// A record begins with the byte of its kind.
+const SLOT: u8 = 1;
+
+const FIT: u8 = 2;
+
+const BAR: u8 = 3;
+
 const LOAD: u8 = 4;
+
+const ROW: u8 = 5;
+
+const WEIGHT: u8 = 6;
+
 const END: u8 = 7;
 
-// The byte that begins a header of a make.
+// The kind of a make's headers.
 fn kind_of(make: Make) -> u8
     ensures { λ r. ⌜ r ≡ kindOf make ⌝ }
 {
     match make {
-        Make::Fit => 2,
-        Make::Bar => 3,
+        Make::Fit => FIT,
+        Make::Bar => BAR,
         Make::Load => LOAD,
     }
 }
 
-// How many bytes a record of a kind has, that of its kind among them.
+// How many bytes a record of a kind has, its byte of kind among them.
 fn record_len(kind: u8) -> usize
     ensures { λ r. ⌜ r ≡ 1 + bodyLen kind ⌝ }
 {
     match kind {
-        1 => 2,
-        2 | 3 => 10,
-        4 => 14,
-        5 => 9,
-        6 => 5,
+        SLOT => 2,
+        FIT | BAR => 10,
+        LOAD => 14,
+        ROW => 9,
+        WEIGHT => 5,
         _ => 1,
     }
 }
@@ -45,7 +57,7 @@ fn record_len(kind: u8) -> usize
 fn is_entry(kind: u8) -> bool
     ensures { λ r. ⌜ r ≡ isEntry kind ⌝ }
 {
-    kind == 5 || kind == 6
+    kind == ROW || kind == WEIGHT
 }
 
 // Where the rows or weights end that lie from a place on.
@@ -76,7 +88,12 @@ fn cap_at(bytes: &[u8], at: usize) -> i32
     if bytes[at] != LOAD {
         return 0;
     }
-    i32::from_le_bytes([bytes[at + 10], bytes[at + 11], bytes[at + 12], bytes[at + 13]])
+    i32::from_le_bytes([
+        bytes[at + 10],
+        bytes[at + 11],
+        bytes[at + 12],
+        bytes[at + 13],
+    ])
 }
 
 // What is shown of the sheet whose header is at a place.

@@ -26,11 +26,11 @@ part-result-end-2 c = let h = entries-end (ends c) in search needs
 pub returns : need.returns
 returns c =
     λ t to l.
-      let bs = c .args .bytes .now in
-      let at = c .args .at in
-      let fits : SFits w32 (c .cap-at .result) = search needs in
-      let size : at + 2 + getD bs (at + 1) 0 - (at + 2) ≡ getD bs (at + 1) 0 = omega arith in
-      shown-same _ _ _ _ _ _
-      (ap (λ n. take n (drop (at + 2) bs)) size ∙ scope-read bs at t to l)
-      (toZ-ofZ w32 (c .cap-at .result) fits ∙ c .cap-at .ensures t to l)
-      (ap (λ n. take (c .sheet-end .result - (at + n)) (drop (at + n) bs)) (c .record-len .ensures) ∙ ap (λ n. take (n - past bs at) (drop (past bs at) bs)) (c .sheet-end .ensures t to l) ∙ l .shown)
+    let bs = c .args .bytes .now in
+    let at = c .args .at in
+    let fits : SFits w32 (c .cap-at .result) = search needs in
+    let size : at + 2 + getD bs (at + 1) 0 - (at + 2) ≡ getD bs (at + 1) 0 = omega arith in
+    shown-same _ _ _ _ _ _
+    (ap (λ n. take n (drop (at + 2) bs)) size ∙ scope-read bs at t to l)
+    (toZ-ofZ w32 (c .cap-at .result) fits ∙ c .cap-at .ensures t to l)
+    (ap (λ n. take (c .sheet-end .result - (at + n)) (drop (at + n) bs)) (c .record-len .ensures) ∙ ap (λ n. take (n - past bs at) (drop (past bs at) bs)) (c .sheet-end .ensures t to l) ∙ l .shown)

@@ -6,7 +6,8 @@ use Rattle.catalogue.proofs.checked.Catalogue.options.Needs as need
 pub index-self-slot : need.index-self-slot
 index-self-slot c =
     let s = c .args .self .now in
-    slot-inside (s .bytes .now) (s .counts) (c .args .slot) (held _ _ (s .accepted) (s .octets)) (c .if-slot-self .taken)
+    let h = slot-inside (s .bytes .now) (s .counts) (c .args .slot) (held _ _ (s .accepted) (s .octets)) (c .if-slot-self .taken) in
+    omega arith
 
 pub returns-then-slot-self : need.returns-then-slot-self
 returns-then-slot-self c =

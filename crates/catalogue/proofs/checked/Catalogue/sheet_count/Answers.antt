@@ -1,4 +1,4 @@
-use mathlib.Core.Path.{_≡_, sym, subst, ap, _∙_}
+use mathlib.Core.Path.{sym, subst, _∙_}
 use borrow.Author.Needs.{needs}
 use native.Mathlib.Omega.{arith}
 use Rattle.catalogue.proofs.Held.{held}
@@ -31,8 +31,8 @@ loop-at-again c =
     let ends = c .sheet-end-at .ensures in
     let is = c .kind-of .ensures in
     elim (c .if-self-at .came) [
-      then-self-at w ↦ subst (Counting bs (c .args .make) to) (sym (w .n-is)) (counting-hit bs _ _ _ to inv go ends (w .if-self-at .taken ∙ is))
-    | else-self-at w ↦ subst (Counting bs (c .args .make) to) (sym (w .n-is)) (counting-miss bs _ _ _ to inv go ends (λ e. w .if-self-at .left (e ∙ sym is)))
+      | then-self-at w ↦ subst (Counting bs (c .args .make) to) (sym (w .n-is)) (counting-hit bs _ _ _ to inv go ends (w .if-self-at .taken ∙ is))
+      | else-self-at w ↦ subst (Counting bs (c .args .make) to) (sym (w .n-is)) (counting-miss bs _ _ _ to inv go ends (λ e. w .if-self-at .left (e ∙ sym is)))
     ]
 
 pub returns : need.returns
