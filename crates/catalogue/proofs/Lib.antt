@@ -9,3 +9,7 @@ pub mod Bodies
 pub mod Good
 pub mod Sound
 pub mod Meaning
+pub mod Held
+pub mod Laid
+pub mod Scan
+pub mod Told

@@ -7,3 +7,4 @@ pub mod Law
 pub mod Views
 pub mod Model
 pub mod Steps
+pub mod Places

@@ -1,9 +1,10 @@
 -- What is shown of a catalogue's content: its slots, and its sheets by make. Assumes nothing.
 use mathlib.Core.Bool.{Bool, true, false, cond}
 use mathlib.Core.List.{List, [], _∷_}
-use Prim.Native.Nat.{ℕ, zero, suc}
+use Prim.Native.Nat.{ℕ}
 use lib.IntN.{ℤ}
 use lib.ListN.{length}
+use Rattle.std.specs.Finite.{nth}
 use Rattle.std.specs.declared.option.Option.{Option}
 use Rattle.std.specs.declared.option.Option.the-variants.{Some, None}
 use Rattle.std.specs.declared.result.Result.{Result}
@@ -14,12 +15,6 @@ use Rattle.catalogue.specs.declared.make.Make.the-variants.{Fit, Bar, Load}
 use Rattle.catalogue.specs.declared.view.View.{View}
 use Rattle.catalogue.specs.Content.{Sheet, Content}
 use Rattle.catalogue.specs.Writing.{entryBytes}
-
--- the element at a place, if there is one
-abbrev pub nth : {X : Type 0} → List X → ℕ → Option X
-nth [] i = None
-nth (x ∷ xs) zero = Some x
-nth (x ∷ xs) (suc i) = nth xs i
 
 -- the sheets of one make, in the file's order
 abbrev pub isMake : Make → Make → Bool
@@ -51,9 +46,12 @@ showingOf None = None
 showingOf (Some t) = Some (showing t)
 
 -- what a view of the program holds
+abbrev pub shownBy : View → Shown
+shownBy v = record { scope = v .scope .now; «cap» = v .«cap»; entries = v .entries .now }
+
 abbrev pub seen : Option View → Option Shown
 seen None = None
-seen (Some v) = Some (record { scope = v .scope .now; «cap» = v .«cap»; entries = v .entries .now })
+seen (Some v) = Some (shownBy v)
 
 -- how many options a slot has, if the catalogue has the slot
 abbrev pub optionsSaid : Result Content Fault → ℕ → Option ℕ

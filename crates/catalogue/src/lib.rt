@@ -1,4 +1,5 @@
 // A catalogue file, checked: what it says of slots and sheets, or the first thing that is wrong with it.
+mod access;
 pub mod check;
 pub mod checked;
 pub mod counts;
