@@ -21,7 +21,6 @@ pub data Rec : Type 0 where
   end : Rec
 
 infixl 5 _when_
-
 -- a check, by its number: the test is true where the record fails it
 pub data Check : Type 0 where
   _when_ : ℕ → Bool → Check

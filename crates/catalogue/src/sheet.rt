@@ -131,7 +131,12 @@ fn well_filled(options: &[u8], scope: &[u8], row: &[u8]) -> bool
 }
 
 // Check 9: the options that a row has, a part of its body.
-pub(crate) fn row_of<'a>(options: &[u8], scope: &[u8], body: &'a [u8], at: usize) -> Result<&'a [u8], Fault>
+pub(crate) fn row_of<'a>(
+    options: &[u8],
+    scope: &[u8],
+    body: &'a [u8],
+    at: usize,
+) -> Result<&'a [u8], Fault>
     ensures is { λ r. ⌜ heldBy r ≡ rowRead at (now (options .entry)) (now (scope .entry)) (now (body .entry)) ⌝ }
     ensures long { λ r. ⌜ made r (λ key. length (key .now) ≡ length (now (scope .entry))) ⌝ }
     ensures short { λ r. ⌜ made r (λ key. length (key .now) ≤ length (now (body .entry))) ⌝ }
@@ -195,7 +200,12 @@ fn well_weighed(options: &[u8], scope: &[u8], body: &[u8]) -> bool
 }
 
 // Check 11: what a weight is of, its position and option, a part of its body.
-pub(crate) fn weight_of<'a>(options: &[u8], scope: &[u8], body: &'a [u8], at: usize) -> Result<&'a [u8], Fault>
+pub(crate) fn weight_of<'a>(
+    options: &[u8],
+    scope: &[u8],
+    body: &'a [u8],
+    at: usize,
+) -> Result<&'a [u8], Fault>
     requires { ⌜ length (now body) ≡ 4 ⌝ }
     ensures is { λ r. ⌜ heldBy r ≡ weightRead at (now (options .entry)) (now (scope .entry)) (now (body .entry)) ⌝ }
     ensures long { λ r. ⌜ made r (λ key. length (key .now) ≡ 2) ⌝ }
