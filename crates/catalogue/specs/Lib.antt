@@ -8,3 +8,4 @@ pub mod Views
 pub mod Model
 pub mod Steps
 pub mod Places
+pub mod Wording

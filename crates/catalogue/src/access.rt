@@ -11,22 +11,14 @@ ghost use Rattle.catalogue.specs.Places.{isEntry, Entries, Lies, SheetAt};
 use crate::checked::Catalogue;
 use crate::counts::Counts;
 use crate::make::Make;
+use crate::read::body_len;
+use crate::record::BAR;
+use crate::record::END;
+use crate::record::FIT;
+use crate::record::LOAD;
+use crate::record::ROW;
+use crate::record::WEIGHT;
 use crate::view::View;
-
-// A record begins with the byte of its kind.
-const SLOT: u8 = 1;
-
-const FIT: u8 = 2;
-
-const BAR: u8 = 3;
-
-const LOAD: u8 = 4;
-
-const ROW: u8 = 5;
-
-const WEIGHT: u8 = 6;
-
-const END: u8 = 7;
 
 // The kind of a make's headers.
 fn kind_of(make: Make) -> u8
@@ -43,14 +35,7 @@ fn kind_of(make: Make) -> u8
 fn record_len(kind: u8) -> usize
     ensures { λ r. ⌜ r ≡ 1 + bodyLen kind ⌝ }
 {
-    match kind {
-        SLOT => 2,
-        FIT | BAR => 10,
-        LOAD => 14,
-        ROW => 9,
-        WEIGHT => 5,
-        _ => 1,
-    }
+    1 + body_len(kind)
 }
 
 // Whether a record of a kind is a row or a weight.

@@ -12,3 +12,4 @@ mod record;
 mod sheet;
 mod steps;
 pub mod view;
+pub mod wording;

@@ -4,19 +4,25 @@ ghost use Rattle.std.specs.Vec.{made};
 ghost use Rattle.catalogue.specs.Records.{bodyLen, readAt};
 ghost use Rattle.catalogue.specs.Model.{readAs, recordOf, Lies};
 use crate::fault::Fault;
+use crate::record::BAR;
+use crate::record::END;
+use crate::record::FIT;
+use crate::record::LOAD;
+use crate::record::ROW;
 use crate::record::Record;
+use crate::record::SLOT;
+use crate::record::WEIGHT;
 
 // How many bytes of body a kind has.
-fn body_len(kind: u8) -> usize
+pub(crate) fn body_len(kind: u8) -> usize
     ensures { λ r. ⌜ r ≡ bodyLen kind ⌝ }
 {
     match kind {
-        1 => 1,
-        2 => 9,
-        3 => 9,
-        4 => 13,
-        5 => 8,
-        6 => 4,
+        SLOT => 1,
+        FIT | BAR => 9,
+        LOAD => 13,
+        ROW => 8,
+        WEIGHT => 4,
         _ => 0,
     }
 }
@@ -30,7 +36,7 @@ pub(crate) fn read<'a>(bytes: &'a [u8], at: usize) -> Result<Record<'a>, Fault>
         return Err(Fault::record(1, at));
     }
     let kind = bytes[at];
-    if kind < 1 || kind > 7 {
+    if kind < SLOT || kind > END {
         return Err(Fault::record(2, at));
     }
     let len = body_len(kind);
@@ -39,12 +45,12 @@ pub(crate) fn read<'a>(bytes: &'a [u8], at: usize) -> Result<Record<'a>, Fault>
     }
     let body = &bytes[at + 1..at + 1 + len];
     match kind {
-        1 => Ok(Record::Slot(body)),
-        2 => Ok(Record::FitHeader(body)),
-        3 => Ok(Record::BarHeader(body)),
-        4 => Ok(Record::LoadHeader(body)),
-        5 => Ok(Record::Row(body)),
-        6 => Ok(Record::Weight(body)),
+        SLOT => Ok(Record::Slot(body)),
+        FIT => Ok(Record::FitHeader(body)),
+        BAR => Ok(Record::BarHeader(body)),
+        LOAD => Ok(Record::LoadHeader(body)),
+        ROW => Ok(Record::Row(body)),
+        WEIGHT => Ok(Record::Weight(body)),
         _ => Ok(Record::End),
     }
 }

@@ -4,7 +4,7 @@ ghost use Prim.Native.Nat.{ℕ, _+_, _*_, _≤_, _<_};
 ghost use lib.ListN.{length};
 ghost use Rattle.std.specs.Vec.{made};
 ghost use Rattle.catalogue.specs.Records.{readAt};
-ghost use Rattle.catalogue.specs.Checks.{all, unused, has, hasList, wellScoped, wellFilled, wellWeighed, signedFour, weightOf, inRange};
+ghost use Rattle.catalogue.specs.Checks.{all, unused, has, hasList, wellScoped, wellFilled, wellWeighed, weightOf, inRange};
 ghost use Rattle.catalogue.specs.Model.{enteredAs, entryOf, Lies, partsFrom, optionsIn, scopeRead, rowRead, weightRead, heldBy};
 use crate::entry::Entry;
 use crate::fault::Fault;
@@ -163,14 +163,6 @@ pub(crate) fn stood_before(bytes: &[u8], from: usize, to: usize, step: usize, ke
         at += step;
     }
     false
-}
-
-// A signed number of four bytes, low byte first.
-pub(crate) fn signed_four(bytes: &[u8]) -> i32
-    requires { ⌜ 4 ≤ length (now bytes) ⌝ }
-    ensures { λ r. ⌜ r ≡ signedFour (now (bytes .entry)) ⌝ }
-{
-    i32::from_le_bytes([bytes[0], bytes[1], bytes[2], bytes[3]])
 }
 
 // Whether a weight's amount is in range.
