@@ -1,6 +1,3 @@
-pub mod Tests
-pub mod Stepping
-pub mod Judging
 pub mod Reading
 pub mod Passing
 pub mod Complete

@@ -5,7 +5,5 @@ pub mod Checks
 pub mod Verdict
 pub mod Law
 pub mod Views
-pub mod Model
-pub mod Steps
 pub mod Places
 pub mod Wording

@@ -1,23 +1,21 @@
 // What a checked catalogue tells: its slots and its sheets, read off its bytes with no further check.
 ghost use mathlib.Core.Path.{_≡_};
 ghost use Prim.Native.Nat.{ℕ, _+_};
-ghost use Rattle.std.specs.declared.result.Result.the-variants.{Ok};
 ghost use Rattle.catalogue.specs.Content.{Sheet};
 ghost use Rattle.catalogue.specs.Writing.{kindOf};
 ghost use Rattle.catalogue.specs.Records.{bodyLen};
-ghost use Rattle.catalogue.specs.Verdict.{content, verdict};
+ghost use Rattle.catalogue.specs.Verdict.{content};
 ghost use Rattle.catalogue.specs.Views.{shownBy, showing, seen, optionsSaid, countSaid, sheetSaid};
 ghost use Rattle.catalogue.specs.Places.{isEntry, Entries, Lies, SheetAt};
 use crate::checked::Catalogue;
-use crate::counts::Counts;
+use crate::kind::BAR;
+use crate::kind::END;
+use crate::kind::FIT;
+use crate::kind::LOAD;
+use crate::kind::ROW;
+use crate::kind::WEIGHT;
+use crate::kind::body_len;
 use crate::make::Make;
-use crate::read::body_len;
-use crate::record::BAR;
-use crate::record::END;
-use crate::record::FIT;
-use crate::record::LOAD;
-use crate::record::ROW;
-use crate::record::WEIGHT;
 use crate::view::View;
 
 // The kind of a make's headers.
@@ -96,21 +94,6 @@ fn view_at<'a>(bytes: &'a [u8], at: usize) -> View<'a>
 }
 
 impl<'a> Catalogue<'a> {
-    // The file itself.
-    pub fn bytes(&self) -> &'a [u8]
-        ensures { λ r. ⌜ now r ≡ now (now (self .entry) .bytes) ⌝ }
-    {
-        self.bytes
-    }
-
-    // How much the file holds.
-    pub fn counts(&self) -> Counts
-        ensures kept { λ r. ⌜ r ≡ now (self .entry) .counts ⌝ }
-        ensures told { λ r. ⌜ Ok r ≡ verdict (now (now (self .entry) .bytes)) ⌝ }
-    {
-        self.counts
-    }
-
     // How many options a slot has, if the catalogue has the slot.
     pub fn options(&self, slot: usize) -> Option<u8>
         ensures { λ r. ⌜ r ≡ optionsSaid (content (now (now (self .entry) .bytes))) slot ⌝ }

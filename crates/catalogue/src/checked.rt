@@ -10,8 +10,8 @@ use crate::counts::Counts;
 // Its bytes are always an accepted file, and hold so much.
 #[derive(Drop)]
 pub struct Catalogue<'a> {
-    pub(crate) bytes: &'a [u8],
-    pub(crate) counts: Counts,
+    pub bytes: &'a [u8],
+    pub counts: Counts,
     ghost accepted: { accepts (now bytes) counts ≡ true },
     ghost octets: { (i : ℕ) → getD (now bytes) i 0 < 256 },
 }
