@@ -4,6 +4,7 @@ use mathlib.Core.Bool.{Bool, true, false, cond, _&&_}
 use mathlib.Core.List.{List, [], _∷_}
 use Prim.Native.Nat.{ℕ, _<_}
 use native.Mathlib.Omega.{arith}
+use Rattle.std.specs.Vec.{made}
 use Rattle.std.specs.declared.result.Result.{Result}
 use Rattle.std.specs.declared.result.Result.the-variants.{Ok, Err}
 use Rattle.std.proofs.shelf.Ways.{tells}
@@ -41,5 +42,10 @@ means bs o r e = by (content bs) refl r e
 gives-own : (c : Counts) → gives (Ok c) c ≡ true
 gives-own c = grind (arith, tells)
 
-pub accepts-from : (bs : List ℕ) (c : Counts) → Ok c ≡ verdict bs → accepts bs c ≡ true
+accepts-from : (bs : List ℕ) (c : Counts) → Ok c ≡ verdict bs → accepts bs c ≡ true
 accepts-from bs c e = subst (λ r. gives r c ≡ true) e (gives-own c)
+
+-- an accepted file is accepted with the counts that are told
+pub made-accepted : (bs : List ℕ) (r : Result Counts Fault) → r ≡ verdict bs → made r (λ c. accepts bs c ≡ true)
+made-accepted bs (Ok c) e = accepts-from bs c e
+made-accepted bs (Err f) e = tt
