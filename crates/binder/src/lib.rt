@@ -1,0 +1,3 @@
+// The interface of binders, and two binders side by side as one.
+pub mod binders;
+pub mod refusal;
