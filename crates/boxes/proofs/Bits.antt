@@ -10,10 +10,10 @@ use lib.Dec.{eqb}
 use lib.ListN.{length, getD, set, replicate, getD-replicate}
 use lib.Seq.{getD-set-same, getD-set-other}
 use Rattle.std.specs.Orderings.{Decides}
-use Rattle.std.proofs.shelf.Bits.{and-mask, xor-shr, xor-mod, shl-shr, pow-add, pow-below, one-shl}
+use Rattle.std.proofs.shelf.Bits.{and-mask, and-shr, and-mod, and-le-l, and-le-r, xor-shr, xor-mod, shl-shr, pow-add, pow-below, one-shl}
 use Rattle.std.proofs.shelf.Lists.{getD-past}
 use Rattle.std.proofs.shelf.Tests.{cases-eq, cases-order, cases-lt, eqb-true, eq-eqb}
-use Rattle.boxes.specs.Boxes.{Open, Closed, Opened}
+use Rattle.boxes.specs.Boxes.{Open, Closed, Opened, Restricted, Bit}
 
 -- bit k of a number
 abbrev pub bit : ℕ → ℕ → ℕ
@@ -150,3 +150,43 @@ none-open s o h =
     let y : _≡_ {A = ℕ} 0 1 = sym z ∙ h .1 in omega arith)
     (λ past. shut-past (replicate 48 0) s o past h)
     (cases-lt s 48)
+
+-- the bits that two numbers share
+bit-both : (a b k : ℕ) → bit (bitAnd a b) k ≡ bitAnd (bit a k) (bit b k)
+bit-both a b k = ap (λ n. n % 2) (and-shr a b k) ∙ and-mod (a / 2 ^ k) (b / 2 ^ k) 1
+
+both-one : (x y : ℕ) → x < 2 → y < 2 → bitAnd x y ≡ 1 → (x ≡ 1) × (y ≡ 1)
+both-one x y l k e = (omega (arith, and-le-l x y), omega (arith, and-le-r x y))
+
+bit-two : (n k : ℕ) → bit n k < 2
+bit-two n k = omega arith
+
+-- other slots are as they were where their cells are
+pub open-same : (b c : List ℕ) (s o : ℕ) → getD c s 0 ≡ getD b s 0 → Open b s o → Open c s o
+unfolding Open
+open-same b c s o e h = (h .0, ap (λ n. bit n o) e ∙ h .1)
+
+-- the cells with one masked
+abbrev pub masked : List ℕ → ℕ → ℕ → List ℕ
+masked b s mask = set b s (bitAnd (getD b s 0) mask)
+
+pub restricted : (b : List ℕ) (s mask : ℕ) → s < length b → Restricted b (masked b s mask) s mask
+unfolding Open Bit
+restricted b s mask lt =
+    let here : getD (masked b s mask) s 0 ≡ bitAnd (getD b s 0) mask = getD-set-same b s (bitAnd (getD b s 0) mask) 0 lt in
+    let other : (t : ℕ) → (t ≡ s → ⊥) → getD (masked b s mask) t 0 ≡ getD b t 0 = λ t ne. getD-set-other b s t (bitAnd (getD b s 0) mask) 0 ne in
+    let bits : (o : ℕ) → bit (getD (masked b s mask) s 0) o ≡ bitAnd (bit (getD b s 0) o) (bit mask o) = λ o. ap (λ n. bit n o) here ∙ bit-both (getD b s 0) mask o in
+    let parts : (o : ℕ) → bit (getD (masked b s mask) s 0) o ≡ 1 → (bit (getD b s 0) o ≡ 1) × (bit mask o ≡ 1) = λ o h. both-one (bit (getD b s 0) o) (bit mask o) (bit-two (getD b s 0) o) (bit-two mask o) (sym (bits o) ∙ h) in
+    record {
+      less = λ t o h. ⊎-elim
+          (λ e. subst (λ v. Open b v o) (sym e) (h .0, parts o (subst (λ v. bit (getD (masked b s mask) v 0) o ≡ 1) e (h .1)) .0))
+          (λ ne. (h .0, sym (ap (λ n. bit n o) (other t ne)) ∙ h .1))
+          (cases-eq t s);
+      masked = λ o h. parts o (h .1) .1;
+      more = λ o h k. (h .0, bits o ∙ ap (λ n. bitAnd n (bit mask o)) (h .1) ∙ ap (bitAnd 1) k);
+      rest = other;
+    }
+
+pub restricted-same : (b : List ℕ) (s mask : ℕ) → length b ≤ s → Restricted b b s mask
+restricted-same b s mask past =
+    record { less = λ t o h. h; masked = λ o h. absurd (shut-past b s o past h); more = λ o h k. h; rest = λ t ne. refl }

@@ -30,3 +30,14 @@ pub record Opened (b c : List ℕ) (s o : ℕ) : Type 0 where
   pub less : (t u : ℕ) → ((t ≡ s) × (u ≡ o) → ⊥) → Open c t u → Open b t u
   pub more : Within b c
   pub rest : (t : ℕ) → (t ≡ s → ⊥) → getD c t 0 ≡ getD b t 0
+
+-- bit o of a number is one
+unfoldable pub Bit : ℕ → ℕ → Type 0
+Bit n o = (n / 2 ^ o) % 2 ≡ 1
+
+-- c is b with just the options of slot s left that have their bit in a mask
+pub record Restricted (b c : List ℕ) (s mask : ℕ) : Type 0 where
+  pub less : Within c b
+  pub masked : (o : ℕ) → Open c s o → Bit mask o
+  pub more : (o : ℕ) → Open b s o → Bit mask o → Open c s o
+  pub rest : (t : ℕ) → (t ≡ s → ⊥) → getD c t 0 ≡ getD b t 0

@@ -3,7 +3,7 @@ ghost use mathlib.Core.Path.{_≡_};
 ghost use Prim.Native.Nat.{ℕ, _<_};
 ghost use lib.ListN.{length, getD, replicate};
 ghost use Rattle.std.specs.Orderings.{Decides};
-ghost use Rattle.boxes.specs.Boxes.{Open, Opened, Closed};
+ghost use Rattle.boxes.specs.Boxes.{Open, Opened, Closed, Restricted};
 
 // How many slots and options a box covers.
 pub const SLOTS: usize = 48;
@@ -72,5 +72,15 @@ impl OptionBox {
             return;
         }
         self.cells[slot] ^= 1 << option;
+    }
+
+    // Closes the options of a slot whose bits in a mask are zero, and leaves the others.
+    pub fn restrict(&mut self, slot: usize, mask: u32)
+        ensures { λ _. ⌜ Restricted (now (self .entry) .cells) (now (self .exit) .cells) slot mask ⌝ }
+    {
+        if slot >= SLOTS {
+            return;
+        }
+        self.cells[slot] &= mask;
     }
 }
