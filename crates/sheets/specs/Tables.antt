@@ -28,10 +28,10 @@ pub record Taken (m : Make) (views : List View) (n : ℕ) : Type 0 where
   pub loads : loadsIn sheets ≤ 8
   pub is : map showing sheets ≡ shownIn views n
 
--- what a catalogue says of the sheets of a make
-abbrev pub sheetsSaid : Result Content Fault → Make → List Shown
-sheetsSaid (Ok w) m = map showing (ofMake m (w .sheets))
-sheetsSaid (Err f) m = []
+-- the sheets of a make that a catalogue has
+abbrev pub sheetsIn : Result Content Fault → Make → List Sheet
+sheetsIn (Ok w) m = ofMake m (w .sheets)
+sheetsIn (Err f) m = []
 
 -- row r of some entries, by its options: rows are nine bytes long, the first is the kind
 abbrev pub rowAt : List ℕ → ℕ → ℕ → List ℕ
