@@ -1,7 +1,8 @@
 -- What a table of sheets holds, and how its rows are read. Assumes nothing.
 use mathlib.Core.Path.{_≡_}
 use mathlib.Core.List.{List, [], _∷_, map}
-use Prim.Native.Nat.{ℕ, _+_, _*_, _≤_}
+use Prim.Native.Nat.{ℕ, zero, suc, _+_, _*_, _≤_}
+use lib.IntN.{pos}
 use lib.ListN.{length, take, drop}
 use Rattle.std.specs.shelf.Lists.{All}
 use Rattle.std.specs.declared.result.Result.{Result}
@@ -15,6 +16,12 @@ use Rattle.catalogue.specs.Views.{ofMake, Shown, showing, shownBy}
 -- what the first views show
 abbrev pub shownIn : List View → ℕ → List Shown
 shownIn views n = map shownBy (take n views)
+
+-- what view s shows; past the last, nothing
+abbrev pub shownAt : List View → ℕ → Shown
+shownAt [] s = record { scope = []; «cap» = pos 0; entries = [] }
+shownAt (v ∷ vs) zero = shownBy v
+shownAt (v ∷ vs) (suc s) = shownAt vs s
 
 -- the views show sheets of one make that some sound catalogue has
 pub record Taken (m : Make) (views : List View) (n : ℕ) : Type 0 where
