@@ -2,7 +2,7 @@
 ghost use mathlib.Core.Path.{_≡_};
 ghost use mathlib.Core.List.{[], _∷_, _++_};
 ghost use Prim.Native.Nat.{_+_, _-_, _≤_};
-ghost use lib.ListN.{length, replicate, take};
+ghost use lib.ListN.{length, replicate, set, take};
 ghost use Rattle.std.specs.Of.Vec.{vec-items, vec-len};
 ghost use Rattle.std.specs.Vec.{made};
 ghost use Rattle.catalogue.specs.Writing.{padded, twoBytes, fourBytes, slotBytes, rowBytes};
@@ -126,6 +126,16 @@ impl Draft {
         ensures long { λ r. ⌜ made r (λ d. vec-len (d .bytes) ≡ vec-len (self .bytes) + 1) ⌝ }
     {
         self.raw(&[7])
+    }
+
+    // The file with one byte changed, if it has a byte at the place.
+    pub fn with(mut self, at: usize, byte: u8) -> Draft
+        ensures { λ r. ⌜ vec-items (r .bytes) ≡ set (vec-items (self .bytes)) at byte ⌝ }
+    {
+        if at < self.bytes.len() {
+            self.bytes[at] = byte;
+        }
+        self
     }
 
     // All but the last byte.
