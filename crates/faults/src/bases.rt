@@ -1,5 +1,7 @@
 // How the files of several cases begin.
 ghost use Prim.Native.Nat.{_≤_};
+use crate::chain::Chain;
+use crate::chain::DraftChain;
 use samples::draft::Draft;
 use std::alloc::AllocError;
 use std::alloc::Global;
@@ -11,17 +13,27 @@ pub fn one_slot(heap: Global) -> Result<Draft, AllocError> {
 
 // Slots of two and of three options: 4 bytes.
 pub fn two_slots(heap: Global) -> Result<Draft, AllocError> {
-    Draft::new(heap).slot(2)?.slot(3)
+    Draft::new(heap).slot(2).slot(3)
 }
 
 // The same and a fit sheet on both: 14 bytes.
 pub fn fit_pair(heap: Global) -> Result<Draft, AllocError> {
-    two_slots(heap)?.fit(&[0, 1])
+    two_slots(heap).fit(&[0, 1])
 }
 
 // The same with a load sheet: 18 bytes.
 pub fn load_pair(heap: Global) -> Result<Draft, AllocError> {
-    two_slots(heap)?.load(&[0, 1], 10)
+    two_slots(heap).load(&[0, 1], 10)
+}
+
+// One slot and a fit sheet on it: 12 bytes.
+pub fn fit_one(heap: Global) -> Result<Draft, AllocError> {
+    one_slot(heap).fit(&[0])
+}
+
+// One slot and a load sheet on it: 16 bytes.
+pub fn load_one(heap: Global) -> Result<Draft, AllocError> {
+    one_slot(heap).load(&[0], 10)
 }
 
 // One slot and so many fit sheets on it: 2 bytes, and 10 more for each.
@@ -46,6 +58,6 @@ pub fn load_sheets(heap: Global, n: u8) -> Result<Draft, AllocError> {
 pub fn many_rows(heap: Global, n: u16) -> Result<Draft, AllocError>
     requires { ⌜ n ≤ 32768 ⌝ }
 {
-    let draft = Draft::new(heap).slots(8, 32)?;
-    draft.fit(&[0, 1, 2, 3, 4, 5, 6, 7])?.rows(n)
+    let slots = Draft::new(heap).slots(8, 32);
+    slots.fit(&[0, 1, 2, 3, 4, 5, 6, 7]).rows(n)
 }

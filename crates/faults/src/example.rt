@@ -1,32 +1,32 @@
 // A small whole catalogue: three slots and three sheets.
-use crate::case::case;
+use crate::case::bare;
+use crate::chain::Chain;
+use crate::chain::DraftChain;
 use samples::draft::Draft;
 use std::alloc::AllocError;
 use std::alloc::Global;
 use std::io;
 
-fn first_sheet(draft: Draft) -> Result<Draft, AllocError> {
-    let draft = draft.fit(&[0, 1])?.row(&[0, 0])?.row(&[0, 1])?;
-    draft.row(&[1, 1])?.row(&[1, 2])
+// Three slots and a fit sheet.
+fn beginning(heap: Global) -> Result<Draft, AllocError> {
+    let slots = Draft::new(heap).slot(2).slot(3).slot(3);
+    let sheet = slots.fit(&[0, 1]).row(&[0, 0]).row(&[0, 1]);
+    sheet.row(&[1, 1]).row(&[1, 2])
 }
 
-fn second_sheet(draft: Draft) -> Result<Draft, AllocError> {
-    draft.fit(&[1, 2])?.row(&[0, 0])?.row(&[1, 1])?.row(&[2, 2])
-}
-
-// All but the end.
+// All but the end: a second fit sheet and a bar sheet.
 pub fn records(heap: Global) -> Result<Draft, AllocError> {
-    let slots = Draft::new(heap).slot(2)?.slot(3)?.slot(3)?;
-    let fits = second_sheet(first_sheet(slots)?)?;
-    fits.bar(&[0, 2])?.row(&[0, 1])
+    let sheet = beginning(heap).fit(&[1, 2]);
+    let sheet = sheet.row(&[0, 0]).row(&[1, 1]).row(&[2, 2]);
+    sheet.bar(&[0, 2]).row(&[0, 1])
 }
 
 pub fn run(rt: &LibcRuntime) -> io::Result<()> {
     let heap = rt.alloc();
-    let file = records(heap)?.end()?;
+    let file = records(heap).end()?;
     let size = file.as_slice().len();
     println!(rt, "size of the example: {size}")?;
-    case(rt, "the example", file)?;
-    let changed = records(heap)?.end()?.with(100, 0x02);
-    case(rt, "the example with byte 100 changed to 02", changed)
+    bare(rt, "the example", Ok(file))?;
+    let changed = records(heap).end()?.with(100, 0x02);
+    bare(rt, "the example with byte 100 changed to 02", Ok(changed))
 }

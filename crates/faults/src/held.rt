@@ -1,4 +1,6 @@
 // What a lent catalogue holds after faults and after an accepted file.
+use crate::chain::Chain;
+use crate::chain::DraftChain;
 use crate::example::records;
 use catalogue::check::check;
 use catalogue::checked::Catalogue;
@@ -80,11 +82,11 @@ fn show<'a>(rt: &LibcRuntime, good: &'a [u8], bad: &'a [u8]) -> io::Result<()> {
     show_sheets(rt, &held)
 }
 
-// The example with a load sheet, and the same with a row that is wrong.
+// The example with a load sheet, and the example with a row that is wrong.
 pub fn run(rt: &LibcRuntime) -> io::Result<()> {
     let heap = rt.alloc();
-    let sheets = records(heap)?.load(&[2, 0], -7)?;
-    let good = sheets.weight(0, 2, 30)?.weight(1, 1, -40)?.end()?;
-    let bad = records(heap)?.end()?.with(100, 0x02);
+    let sheets = records(heap).load(&[2, 0], -7);
+    let good = sheets.weight(0, 2, 30).weight(1, 1, -40).end()?;
+    let bad = records(heap).end()?.with(100, 0x02);
     show(rt, good.as_slice(), bad.as_slice())
 }

@@ -2,6 +2,7 @@
 // one by one, then records that break several, then what a catalogue holds after a check.
 mod bases;
 mod case;
+mod chain;
 mod ends;
 mod example;
 mod held;

@@ -1,47 +1,45 @@
 // Faults 1 to 3: records that cannot be read.
+use crate::bases::fit_one;
+use crate::bases::load_one;
 use crate::bases::one_slot;
-use crate::case::case;
+use crate::case::bare;
+use crate::case::cut;
+use crate::chain::Chain;
+use crate::chain::DraftChain;
 use samples::draft::Draft;
 use std::io;
 
 // 1: the file just stops.
 fn no_record(rt: &LibcRuntime) -> io::Result<()> {
     let heap = rt.alloc();
-    case(rt, "nothing", Draft::new(heap))?;
-    case(rt, "no end behind a slot", one_slot(heap)?)?;
-    case(rt, "no end behind a header", one_slot(heap)?.fit(&[0])?)?;
-    case(rt, "no end behind a row", one_slot(heap)?.fit(&[0])?.row(&[0])?)
+    bare(rt, "nothing", Ok(Draft::new(heap)))?;
+    bare(rt, "no end behind a slot", one_slot(heap))?;
+    bare(rt, "no end behind a header", fit_one(heap))?;
+    bare(rt, "no end behind a row", fit_one(heap).row(&[0]))
 }
 
 // 2: the first byte of a record is no kind.
 fn no_kind(rt: &LibcRuntime) -> io::Result<()> {
     let heap = rt.alloc();
-    case(rt, "kind 00 at first", Draft::new(heap).raw(&[0x00])?)?;
-    case(rt, "kind 00 behind a slot", one_slot(heap)?.raw(&[0x00])?)?;
-    case(rt, "kind 08 behind a slot", one_slot(heap)?.raw(&[0x08])?)?;
-    case(rt, "kind FF behind a slot", one_slot(heap)?.raw(&[0xFF])?)
+    bare(rt, "kind 00 at first", Draft::new(heap).raw(&[0x00]))?;
+    bare(rt, "kind 00 behind a slot", one_slot(heap).raw(&[0x00]))?;
+    bare(rt, "kind 08 behind a slot", one_slot(heap).raw(&[0x08]))?;
+    bare(rt, "kind FF behind a slot", one_slot(heap).raw(&[0xFF]))
 }
 
 // 3: the last byte of a record is missing.
-fn cut_headers(rt: &LibcRuntime) -> io::Result<()> {
+fn cut_records(rt: &LibcRuntime) -> io::Result<()> {
     let heap = rt.alloc();
-    case(rt, "a slot cut by a byte", one_slot(heap)?.cut())?;
-    case(rt, "a fit header cut by a byte", one_slot(heap)?.fit(&[0])?.cut())?;
-    case(rt, "a bar header cut by a byte", one_slot(heap)?.bar(&[0])?.cut())?;
-    case(rt, "a load header cut by a byte", one_slot(heap)?.load(&[0], 10)?.cut())
-}
-
-fn cut_entries(rt: &LibcRuntime) -> io::Result<()> {
-    let heap = rt.alloc();
-    let row = one_slot(heap)?.fit(&[0])?.row(&[0])?;
-    case(rt, "a row cut by a byte", row.cut())?;
-    let weight = one_slot(heap)?.load(&[0], 10)?.weight(0, 0, 5)?;
-    case(rt, "a weight cut by a byte", weight.cut())
+    cut(rt, "a slot cut by a byte", one_slot(heap))?;
+    cut(rt, "a fit header cut by a byte", fit_one(heap))?;
+    cut(rt, "a bar header cut by a byte", one_slot(heap).bar(&[0]))?;
+    cut(rt, "a load header cut by a byte", load_one(heap))?;
+    cut(rt, "a row cut by a byte", fit_one(heap).row(&[0]))?;
+    cut(rt, "a weight cut by a byte", load_one(heap).weight(0, 0, 5))
 }
 
 pub fn run(rt: &LibcRuntime) -> io::Result<()> {
     no_record(rt)?;
     no_kind(rt)?;
-    cut_headers(rt)?;
-    cut_entries(rt)
+    cut_records(rt)
 }
