@@ -10,8 +10,16 @@ use std::io;
 pub fn run(rt: &LibcRuntime) -> io::Result<()> {
     let heap = rt.alloc();
     bare(rt, "an end alone", Draft::new(heap).end())?;
-    bare(rt, "a byte 00 behind the end", one_slot(heap).end().raw(&[0x00]))?;
+    bare(
+        rt,
+        "a byte 00 behind the end",
+        one_slot(heap).end().raw(&[0x00]),
+    )?;
     bare(rt, "an end behind the end", one_slot(heap).end().end())?;
     bare(rt, "a slot behind the end", one_slot(heap).end().slot(1))?;
-    bare(rt, "a row behind the end of a sheet", fit_one(heap).end().row(&[0]))
+    bare(
+        rt,
+        "a row behind the end of a sheet",
+        fit_one(heap).end().row(&[0]),
+    )
 }

@@ -46,7 +46,10 @@ fn show_sheet(rt: &LibcRuntime, held: &Catalogue, make: Make, i: usize) -> io::R
             let scope = view.scope;
             let cap = view.cap;
             let size = view.entries.len();
-            println!(rt, "{word} sheet {i}: scope {scope:?} cap {cap} entries of {size} bytes")
+            println!(
+                rt,
+                "{word} sheet {i}: scope {scope:?} cap {cap} entries of {size} bytes"
+            )
         }
         None => println!(rt, "{word} sheet {i}: no such sheet"),
     }

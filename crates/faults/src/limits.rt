@@ -22,7 +22,11 @@ fn many_sheets(rt: &LibcRuntime) -> io::Result<()> {
     case(rt, "65 sheets", fit_sheets(heap, 65))?;
     case(rt, "8 load sheets", load_sheets(heap, 8))?;
     case(rt, "9 load sheets", load_sheets(heap, 9))?;
-    case(rt, "8 load sheets and a fit sheet", load_sheets(heap, 8).fit(&[0]))
+    case(
+        rt,
+        "8 load sheets and a fit sheet",
+        load_sheets(heap, 8).fit(&[0]),
+    )
 }
 
 fn rows(rt: &LibcRuntime) -> io::Result<()> {

@@ -14,6 +14,7 @@ mod rows;
 mod scopes;
 mod slots;
 mod weights;
+
 use std::io;
 
 fn main(rt: LibcRuntime) -> io::Result<()> {

@@ -10,8 +10,16 @@ use std::io;
 fn fields(rt: &LibcRuntime) -> io::Result<()> {
     let heap = rt.alloc();
     case(rt, "the last options", fit_pair(heap).row(&[1, 2]))?;
-    case(rt, "no such option in the first field", fit_pair(heap).row(&[2, 0]))?;
-    case(rt, "no such option in the second field", fit_pair(heap).row(&[0, 3]))?;
+    case(
+        rt,
+        "no such option in the first field",
+        fit_pair(heap).row(&[2, 0]),
+    )?;
+    case(
+        rt,
+        "no such option in the second field",
+        fit_pair(heap).row(&[0, 3]),
+    )?;
     case(rt, "FF in the second field", fit_pair(heap).row(&[0]))
 }
 

@@ -12,5 +12,9 @@ pub fn run(rt: &LibcRuntime) -> io::Result<()> {
     case(rt, "0 options", Draft::new(heap).slot(0))?;
     case(rt, "33 options", Draft::new(heap).slot(33))?;
     case(rt, "255 options", Draft::new(heap).slot(255))?;
-    case(rt, "33 options of the second slot", Draft::new(heap).slot(1).slot(33))
+    case(
+        rt,
+        "33 options of the second slot",
+        Draft::new(heap).slot(1).slot(33),
+    )
 }

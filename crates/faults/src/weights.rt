@@ -11,8 +11,16 @@ fn what(rt: &LibcRuntime) -> io::Result<()> {
     let last = load_pair(heap).weight(0, 1, 5);
     case(rt, "weights of the last options", last.weight(1, 2, 5))?;
     case(rt, "no such position", load_pair(heap).weight(2, 0, 5))?;
-    case(rt, "no such option of the first slot", load_pair(heap).weight(0, 2, 5))?;
-    case(rt, "no such option of the second slot", load_pair(heap).weight(1, 3, 5))
+    case(
+        rt,
+        "no such option of the first slot",
+        load_pair(heap).weight(0, 2, 5),
+    )?;
+    case(
+        rt,
+        "no such option of the second slot",
+        load_pair(heap).weight(1, 3, 5),
+    )
 }
 
 // 11: a weight is from -30,000 to 30,000.
@@ -32,9 +40,17 @@ fn again(rt: &LibcRuntime) -> io::Result<()> {
     let same = load_pair(heap).weight(0, 1, 5);
     case(rt, "a weight again", same.weight(0, 1, 5))?;
     let other = load_pair(heap).weight(0, 1, 5).weight(0, 0, 5);
-    case(rt, "another weight of the same option", other.weight(0, 1, 6))?;
+    case(
+        rt,
+        "another weight of the same option",
+        other.weight(0, 1, 6),
+    )?;
     let turned = load_pair(heap).weight(0, 1, 5);
-    case(rt, "position and option the other way round", turned.weight(1, 0, 5))?;
+    case(
+        rt,
+        "position and option the other way round",
+        turned.weight(1, 0, 5),
+    )?;
     let other = load_pair(heap).weight(0, 1, 5).load(&[0, 1], 10);
     case(rt, "a weight again in another sheet", other.weight(0, 1, 5))
 }

@@ -15,5 +15,5 @@ returns c =
     let left = ap length unused ∙ length-replicate _ _ in
     record {
       bytes = twice _ (c .raw-2 .result) (vec-items (c .args .self .bytes)) _ (c .args .used .now) _ _ (first .bytes) unused (c .raw-2 .ensures .bytes);
-      long = mapped (c .raw-2 .result) (λ d h le. omega (arith, first .long, left, h, le)) (c .raw-2 .ensures .long)
+      long = mapped (c .raw-2 .result) (λ d h le. omega (arith, first .long, left, h, le)) (c .raw-2 .ensures .long);
     }

@@ -13,5 +13,5 @@ returns c =
     let first = c .in-Continue-raw .ensures tt in
     record {
       bytes = twice _ (c .fields .result) (vec-items (c .args .self .bytes)) _ (c .args .kind ∷ length (c .args .scope .now) ∷ []) _ _ (first .bytes) refl (c .fields .ensures .bytes);
-      long = mapped (c .fields .result) (λ d h. omega (arith, first .long, h (c .pre))) (c .fields .ensures .long)
+      long = mapped (c .fields .result) (λ d h. omega (arith, first .long, h (c .pre))) (c .fields .ensures .long);
     }

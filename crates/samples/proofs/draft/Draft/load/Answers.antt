@@ -17,5 +17,5 @@ returns c =
     let left = ap length amount in
     record {
       bytes = twice _ (c .raw .result) (vec-items (c .args .self .bytes)) _ (4 ∷ length (c .args .scope .now) ∷ padded (c .args .scope .now)) _ _ (first .bytes) amount (c .raw .ensures .bytes);
-      long = mapped (c .raw .result) (λ d h. omega (arith, first .long, left, h)) (c .raw .ensures .long)
+      long = mapped (c .raw .result) (λ d h. omega (arith, first .long, left, h)) (c .raw .ensures .long);
     }

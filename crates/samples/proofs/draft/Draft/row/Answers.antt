@@ -12,5 +12,5 @@ returns c =
     let first = c .in-Continue-raw .ensures tt in
     record {
       bytes = twice _ (c .fields .result) (vec-items (c .args .self .bytes)) _ (5 ∷ []) _ _ (first .bytes) refl (c .fields .ensures .bytes);
-      long = mapped (c .fields .result) (λ d h le. omega (arith, first .long, h le)) (c .fields .ensures .long)
+      long = mapped (c .fields .result) (λ d h le. omega (arith, first .long, h le)) (c .fields .ensures .long);
     }

@@ -16,5 +16,5 @@ returns c =
     let left = ap length amount in
     record {
       bytes = twice _ (c .raw-2 .result) (vec-items (c .args .self .bytes)) _ (6 ∷ c .args .position ∷ c .args .option ∷ []) _ _ (first .bytes) amount (c .raw-2 .ensures .bytes);
-      long = mapped (c .raw-2 .result) (λ d h. omega (arith, first .long, left, h)) (c .raw-2 .ensures .long)
+      long = mapped (c .raw-2 .result) (λ d h. omega (arith, first .long, left, h)) (c .raw-2 .ensures .long);
     }
