@@ -14,7 +14,7 @@ fn show_check<'a>(rt: &LibcRuntime, file: &'a [u8], held: &mut Catalogue<'a>) ->
         Ok(counts) => println!(rt, "checked: {counts}")?,
         Err(fault) => println!(rt, "checked: {fault}")?,
     }
-    let counts = held.counts();
+    let counts = held.counts;
     println!(rt, "held then: {counts}")
 }
 
