@@ -9,9 +9,8 @@ use lib.Dec.{T, ltb}
 use lib.ListN.{length, getD}
 use Rattle.std.proofs.shelf.Tests.{cases-lt, lt-ltb, le-ltb, cond-true, cond-false}
 use Rattle.boxes.specs.Boxes.{Open, Fits}
-use Rattle.binder.specs.Meaning.{Binding, Alike, SameSheets, Held, Shown, Noted, Undone, Cleared, keptFirst}
+use Rattle.binder.specs.Meaning.{Binding, Alike, SameSheets, Held, Shown, Noted, Undone, Cleared}
 use Rattle.binder.specs.Joined.{glue, joined, glue-first, glue-second, Beside}
-use Rattle.binder.proofs.Clearing.{sheets-self}
 
 cond-same : {X : Type 0} (t : Bool) (x x′ y y′ : X) → x ≡ x′ → y ≡ y′ → cond t x y ≡ cond t x′ y′
 cond-same true x x′ y y′ e f = e
@@ -68,6 +67,9 @@ shown-like a a′ r m m′ s x y u v rest shown =
       marks = rest .marks;
       marked = rest .marked;
     }
+
+sheets-self : (m : Binding) → SameSheets m m
+sheets-self m = record { count = refl; scope = λ s. refl }
 
 module _ (k : ℕ) (a a′ b b′ : Binding) where
   glue-sheets : SameSheets a a′ → SameSheets b b′ → SameSheets (glue k a b) (glue k a′ b′)

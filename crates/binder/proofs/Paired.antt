@@ -11,7 +11,6 @@ use Rattle.std.specs.Results.{Cases}
 use Rattle.std.specs.declared.result.Result.{Result}
 use Rattle.std.specs.declared.result.Result.the-variants.{Ok, Err}
 use Rattle.std.proofs.shelf.Tests.{and-parts, and-from, eqb-true, eq-eqb, cases-lt, lt-ltb, le-ltb, cond-true, cond-false}
-use Rattle.binder.specs.declared.refusal.Refusal.{Refusal}
 use Rattle.binder.specs.declared.refusal.Refusal.the-variants.{NotThere}
 use Rattle.binder.specs.Meaning.{Binding, Proper, Shown, Noted, Undone, Cleared, arityOf, slotAt}
 use Rattle.binder.specs.Joined.{glue, joined, paired, glue-first, glue-second, Beside}
