@@ -30,7 +30,8 @@ pub struct Join<A: Binder, B: Binder> {
 }
 
 impl<A: Binder, B: Binder> Join<A, B> {
-    // Undoes every mark of either, and joins them.
+    // Undoes every mark of either, and joins them. The contract is over what the new join means, which the
+    // impl below gives.
     pub fn new(a: A, b: B) -> Self
         ensures { λ r. ⌜ Beside (A·Binder .meaning a) (B·Binder .meaning b) (paired (r .both) (A·Binder .meaning (r .first)) (B·Binder .meaning (r .second))) ⌝ }
     {
@@ -113,6 +114,7 @@ pub impl<A: Binder, B: Binder> Binder for Join<A, B> as JoinBinder {
             let _ = self.second.mark();
             return Ok(());
         }
+        // The first alone counts, and goes on to.
         let _ = self.first.mark();
         self.both = false;
         Ok(())
@@ -127,6 +129,7 @@ pub impl<A: Binder, B: Binder> Binder for Join<A, B> as JoinBinder {
             let _ = self.second.undo();
             return Ok(());
         }
+        // The first alone counts, and goes on to.
         let _ = self.first.undo();
         self.both = false;
         Ok(())
