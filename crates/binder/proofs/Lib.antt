@@ -1,0 +1,3 @@
+pub mod Clearing
+pub mod Glued
+pub mod Paired
