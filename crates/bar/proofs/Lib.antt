@@ -1,0 +1,4 @@
+pub mod Pigeons
+pub mod Points
+pub mod Counting
+pub mod Bitcount
