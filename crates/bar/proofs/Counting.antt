@@ -31,3 +31,14 @@ module _ (P : ℕ → Type 0) where
     complete = λ v h q. ⊎-elim (λ e. absurd (none (subst P e q))) (λ ne. k .complete v (omega arith) q) (cases-eq v n);
     few = omega (arith, k .few);
   }
+
+-- the same count of what is met by the same numbers
+pub counts-same : (P Q : ℕ → Type 0) (n c : ℕ) → ((v : ℕ) → v < n → P v → Q v) → ((v : ℕ) → v < n → Q v → P v) → Counts P n c → Counts Q n c
+counts-same P Q n c to from k = record {
+  list = k .list;
+  long = k .long;
+  once = k .once;
+  sound = λ v i. let t = k .sound v i in (t .0, to v (t .0) (t .1));
+  complete = λ v h q. k .complete v h (from v h q);
+  few = k .few;
+}

@@ -39,6 +39,10 @@ pub record Marks (P : ℕ → Type 0) (n mask : ℕ) : Type 0 where
   pub sound : (o : ℕ) → Bit mask o → (o < n) × P o
   pub complete : (o : ℕ) → o < n → P o → Bit mask o
 
+-- no two of the first `total` rows read the same
+abbrev pub RowsApart : List ℕ → ℕ → ℕ → Type 0
+RowsApart entries k total = (u v : ℕ) → u < v → v < total → rowAt entries k u ≡ rowAt entries k v → ⊥
+
 -- some list fits the box, is none of the first `total` rows, and has option o at position p
 pub record Spared (b scope entries : List ℕ) (total p o : ℕ) : Type 0 where
   pub list : List ℕ
