@@ -1,2 +1,3 @@
 pub mod Narrowing
 pub mod Tabled
+pub mod Entries
