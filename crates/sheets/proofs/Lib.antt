@@ -1,3 +1,4 @@
 pub mod Narrowing
 pub mod Tabled
 pub mod Entries
+pub mod Chosen
