@@ -1,4 +1,4 @@
 pub mod Counted
 pub mod Tally
 pub mod Bars
-pub mod Sound
+pub mod Proper

@@ -28,7 +28,7 @@ use Rattle.bar.specs.Tally.{RowsApart}
 use Rattle.bar.specs.Bars.{keeps, barring}
 
 -- what holds of a bar sheet of a sound catalogue, as it is shown
-pub record Sound (v : Shown) : Type 0 where
+pub record GoodBar (v : Shown) : Type 0 where
   pub some : 1 ≤ length (v .scope)
   pub short : length (v .scope) ≤ 8
   pub slots : (p : ℕ) → p < length (v .scope) → getD (v .scope) p 0 < 48
@@ -45,7 +45,7 @@ apart-at d (x ∷ xs) a zero (suc j) l h e = all-getD (λ y. x ≡ y → ⊥) xs
 apart-at d (x ∷ xs) a (suc i) (suc j) l h e = apart-at d xs (a .1) i j (omega arith) (omega arith) e
 
 -- a good bar sheet is shown as one
-sound-showing : (options : List ℕ) (t : Sheet) → length options ≤ 48 → GoodSheet options t → t .make ≡ Bar → length (t .rows) ≤ 4096 → Sound (showing t)
+sound-showing : (options : List ℕ) (t : Sheet) → length options ≤ 48 → GoodSheet options t → t .make ≡ Bar → length (t .rows) ≤ 4096 → GoodBar (showing t)
 sound-showing options t low g m few =
     let long : length (entryBytes t) ≡ 9 * length (t .rows) = entries-rows options t g (ap isLoad m) in
     let total : length (entryBytes t) / 9 ≡ length (t .rows) = omega arith in
@@ -72,12 +72,12 @@ few-rows options (t ∷ ts) (v ∷ vs) (suc n) (suc s) good bars e l h =
     let rest : map showing ts ≡ shownIn vs n = cc in
     omega (arith, few-rows options ts vs n s (good .1) (bars .1) rest (omega arith) (omega arith))
 
-sound-taken : (views : List View) (n : ℕ) (t : Taken Bar views n) (s : ℕ) → s < n → n ≤ length views → Sound (shownAt views s)
+sound-taken : (views : List View) (n : ℕ) (t : Taken Bar views n) (s : ℕ) → s < n → n ≤ length views → GoodBar (shownAt views s)
 sound-taken views n t s l h =
     let a = at Bar views n t s l h in
     let some : length (entryBytes (a .sheet)) ≡ length (shownAt views s .entries) = ap (λ k. length (k .entries)) (sym (a .shows)) in
     let few : length (a .sheet .rows) ≤ 4096 = omega (arith, t .rows, few-rows (t .options) (t .sheets) views n s (t .good) (t .one-make) (t .is) l h, entries-rows (t .options) (a .sheet) (a .good) (ap isLoad (a .make))) in
-    subst Sound (sym (a .shows)) (sound-showing (t .options) (a .sheet) (t .slots) (a .good) (a .make) few)
+    subst GoodBar (sym (a .shows)) (sound-showing (t .options) (a .sheet) (t .slots) (a .good) (a .make) few)
 
 same-make : (m : Make) → isMake Bar m ≡ true → m ≡ Bar
 same-make Fit e = absurd (false≢true e)
@@ -86,10 +86,10 @@ same-make Load e = absurd (false≢true e)
 
 -- the views that a table of bar sheets holds are sound, though it does not say by what catalogue
 module _ (m : Make) (views : List View) (n : ℕ) (bars : isMake Bar m ≡ true) (taken : ∥ Taken m views n ∥₁) (few : n ≤ 64) (long : length views ≡ 64) where
-  sure : {P : Type 0} → IsProp P → (s : ℕ) → s < n → (Sound (shownAt views s) → P) → P
+  sure : {P : Type 0} → IsProp P → (s : ℕ) → s < n → (GoodBar (shownAt views s) → P) → P
   sure prop s l f = ∥∥₁-elim taken prop (λ t. f (sound-taken views n (subst (λ (k : Make). Taken k views n) (same-make m bars) t) s l (omega arith)))
 
-  pub sound-at : (s : ℕ) → s < n → Sound (shownAt views s)
+  pub sound-at : (s : ℕ) → s < n → GoodBar (shownAt views s)
   sound-at s l = record {
       some = sure le-prop s l (λ k. k .some);
       short = sure le-prop s l (λ k. k .short);
@@ -132,7 +132,7 @@ scopes P views n marks f s l = subst P (sym (scope-there views n marks s l)) (f 
 
 pub barring-proper : (m : Make) (views : List View) (n marks : ℕ) → isMake Bar m ≡ true → ∥ Taken m views n ∥₁ → n ≤ 64 → length views ≡ 64 → marks ≤ 72 → Proper (barring views n marks)
 barring-proper m views n marks bars taken few long low =
-    let sound : (s : ℕ) → s < n → Sound (shownAt views s) = sound-at m views n bars taken few long in
+    let sound : (s : ℕ) → s < n → GoodBar (shownAt views s) = sound-at m views n bars taken few long in
     record {
       few = omega arith;
       low = low;

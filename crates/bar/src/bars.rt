@@ -1,0 +1,85 @@
+// The bar sheets of a checked catalogue as one binder.
+ghost use mathlib.Core.Path.{_≡_};
+ghost use mathlib.Core.Bool.{true};
+ghost use Prim.Native.Nat.{_≤_};
+ghost use Rattle.catalogue.specs.declared.make.Make.the-variants.{Bar as BarMake};
+ghost use Rattle.catalogue.specs.Views.{isMake};
+ghost use Rattle.bar.specs.Bars.{barring};
+ghost use Rattle.bar.specs.Proper.{barring-proper};
+use crate::tally::supports;
+use binder::binders::Binder;
+use binder::refusal::Refusal;
+use boxes::OptionBox;
+use sheets::closing::keep_only;
+use sheets::table::Sheets;
+
+// The most marks that may stand.
+const MARKS: usize = 72;
+
+// What a sheet keeps never changes, so that a mark is only counted.
+#[derive(Clone, Copy)]
+pub struct Bar<'a> {
+    sheets: Sheets<'a>,
+    marks: usize,
+    ghost low: { marks ≤ 72 },
+    ghost bars: { isMake BarMake (sheets .make) ≡ true },
+}
+
+pub impl<'a> Binder for Bar<'a> as BarBinder {
+    ghost meaning = { λ x. barring (x .sheets .views .items) (x .sheets .count) (x .marks) };
+
+    ghost proper = { λ x. barring-proper (x .sheets .make) (x .sheets .views .items) (x .sheets .count) (x .marks) (x .bars) (x .sheets .taken) (x .sheets .few) (x .sheets .long) (x .low) };
+
+    fn sheets(&self) -> usize {
+        self.sheets.count
+    }
+
+    fn marks(&self) -> usize {
+        self.marks
+    }
+
+    fn arity(&self, sheet: usize) -> Result<usize, Refusal> {
+        if sheet >= self.sheets.count {
+            return Err(Refusal::NotThere);
+        }
+        let view = self.sheets.view(sheet);
+        Ok(view.scope.len())
+    }
+
+    fn slot_at(&self, sheet: usize, position: usize) -> Result<usize, Refusal> {
+        if sheet >= self.sheets.count {
+            return Err(Refusal::NotThere);
+        }
+        let view = self.sheets.view(sheet);
+        if position >= view.scope.len() {
+            return Err(Refusal::NotThere);
+        }
+        Ok(view.scope[position] as usize)
+    }
+
+    fn show(&mut self, sheet: usize, slate: &mut OptionBox) -> Result<(), Refusal> {
+        if sheet >= self.sheets.count {
+            return Err(Refusal::NotThere);
+        }
+        let view = self.sheets.view(sheet);
+        let masks = supports(view.entries, view.scope, slate);
+        keep_only(slate, view.scope, &masks);
+        Ok(())
+    }
+
+    fn mark(&mut self) -> Result<(), Refusal> {
+        if self.marks >= MARKS {
+            return Err(Refusal::TooManyMarks);
+        }
+        self.marks += 1;
+        Ok(())
+    }
+
+    fn undo(&mut self) -> Result<(), Refusal> {
+        if self.marks == 0 {
+            return Err(Refusal::NoMark);
+        }
+        self.marks -= 1;
+        Ok(())
+    }
+}
