@@ -2,3 +2,4 @@ pub mod Narrowing
 pub mod Tabled
 pub mod Entries
 pub mod Chosen
+pub mod Scopes
