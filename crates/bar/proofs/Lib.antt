@@ -5,3 +5,5 @@ pub mod Bitcount
 pub mod Products
 pub mod Passes
 pub mod Supports
+pub mod Rows
+pub mod Showing

@@ -3,15 +3,21 @@ ghost use mathlib.Core.Path.{_≡_};
 ghost use mathlib.Core.Bool.{true};
 ghost use Prim.Native.Nat.{_≤_};
 ghost use Rattle.catalogue.specs.declared.make.Make.the-variants.{Bar as BarMake};
+ghost use Rattle.catalogue.specs.Verdict.{content};
 ghost use Rattle.catalogue.specs.Views.{isMake};
+ghost use Rattle.sheets.specs.Rules.{Fresh};
+ghost use Rattle.sheets.specs.Tables.{sheetsIn};
 ghost use Rattle.bar.specs.Bars.{barring};
 ghost use Rattle.bar.specs.Proper.{barring-proper};
 use crate::tally::supports;
 use binder::binders::Binder;
 use binder::refusal::Refusal;
 use boxes::OptionBox;
+use catalogue::checked::Catalogue;
+use catalogue::make::Make;
 use sheets::closing::keep_only;
 use sheets::table::Sheets;
+use sheets::taking::sheets_of;
 
 // The most marks that may stand.
 const MARKS: usize = 72;
@@ -23,6 +29,16 @@ pub struct Bar<'a> {
     marks: usize,
     ghost low: { marks ≤ 72 },
     ghost bars: { isMake BarMake (sheets .make) ≡ true },
+}
+
+impl<'a> Bar<'a> {
+    // The bar sheets of a checked catalogue, with no mark.
+    pub fn new(catalogue: &Catalogue<'a>) -> Bar<'a>
+        ensures { λ r. ⌜ Fresh (sheetsIn (content (now (now (catalogue .entry) .bytes))) BarMake) (barring (r .sheets .views .items) (r .sheets .count) (r .marks)) ⌝ }
+    {
+        let sheets = sheets_of(catalogue, Make::Bar);
+        Bar { sheets, marks: 0 }
+    }
 }
 
 pub impl<'a> Binder for Bar<'a> as BarBinder {
