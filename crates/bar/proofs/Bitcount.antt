@@ -1,7 +1,7 @@
 -- The bits that are set, and how many they are. Assumes nothing.
 use mathlib.Core.Path.{_≡_, refl, sym, ap, subst, _∙_}
-use mathlib.Core.Logic.{_⊎_, inl, inr, ⊎-elim}
-use Prim.Native.Nat.{ℕ, zero, suc, _+_, _*_, _/_, _%_, _^_, _<_, _≤_}
+use mathlib.Core.Logic.{⊎-elim}
+use Prim.Native.Nat.{ℕ, zero, suc, _+_, _/_, _%_, _^_, _<_}
 use native.Mathlib.Nat.{mod-one, mod-eq-of-lt}
 use native.Mathlib.Numerals.{add-one, one-add}
 use native.Mathlib.Omega.{arith}
@@ -31,15 +31,15 @@ counts-bits n zero = subst (λ (c : ℕ). Counts (Bit n) 0 c) (sym (ap ones (mod
 counts-bits n (suc k) =
     let was : Counts (Bit n) k (ones (n % 2 ^ k)) = counts-bits n k in
     subst (λ (m : ℕ). Counts (Bit n) m (ones (n % 2 ^ suc k))) (add-one k)
-      (⊎-elim
-        (λ e. subst (λ (c : ℕ). Counts (Bit n) (k + 1) c)
-          (let f : ones ((n / 2 ^ k) % 2) ≡ 1 = ap ones e ∙ ones-one in omega (arith, ones-more n k))
-          (counts-yes (Bit n) k (ones (n % 2 ^ k)) was e))
-        (λ ne. subst (λ (c : ℕ). Counts (Bit n) (k + 1) c)
-          (let z : (n / 2 ^ k) % 2 ≡ 0 = omega arith in
-           let f : ones ((n / 2 ^ k) % 2) ≡ 0 = ap ones z ∙ ones-zero in omega (arith, ones-more n k))
-          (counts-no (Bit n) k (ones (n % 2 ^ k)) was ne))
-        (cases-eq ((n / 2 ^ k) % 2) 1))
+    (⊎-elim
+    (λ e. subst (λ (c : ℕ). Counts (Bit n) (k + 1) c)
+    (let f : ones ((n / 2 ^ k) % 2) ≡ 1 = ap ones e ∙ ones-one in omega (arith, ones-more n k))
+    (counts-yes (Bit n) k (ones (n % 2 ^ k)) was e))
+    (λ ne. subst (λ (c : ℕ). Counts (Bit n) (k + 1) c)
+    (let z : (n / 2 ^ k) % 2 ≡ 0 = omega arith in
+    let f : ones ((n / 2 ^ k) % 2) ≡ 0 = ap ones z ∙ ones-zero in omega (arith, ones-more n k))
+    (counts-no (Bit n) k (ones (n % 2 ^ k)) was ne))
+    (cases-eq ((n / 2 ^ k) % 2) 1))
 
 -- as many as `count_ones` says
 pub counts-ones : (n k : ℕ) → n < 2 ^ k → Counts (Bit n) k (ones n)

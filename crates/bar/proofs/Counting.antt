@@ -1,12 +1,11 @@
 -- Counting the numbers below n that meet P. Assumes nothing.
-use mathlib.Core.Path.{_≡_, refl, sym, ap, subst, _∙_}
-use mathlib.Core.Logic.{_⊎_, inl, inr, ⊎-elim}
-use mathlib.Core.List.{List, [], _∷_}
-use Prim.Native.Nat.{ℕ, suc, _+_, _<_, _≤_}
+use mathlib.Core.Path.{refl, sym, subst}
+use mathlib.Core.Logic.{inl, inr, ⊎-elim}
+use mathlib.Core.List.{[], _∷_}
+use Prim.Native.Nat.{ℕ, _+_, _<_}
 use native.Mathlib.Omega.{arith}
-use lib.ListN.{length}
 use Rattle.std.proofs.shelf.Tests.{cases-eq}
-use Rattle.bar.specs.Counted.{In, NoDup, Counts}
+use Rattle.bar.specs.Counted.{Counts}
 
 module _ (P : ℕ → Type 0) where
   pub counts-none : Counts P 0 0

@@ -1,6 +1,6 @@
 -- The steps of the counting loops. Assumes nothing.
-use mathlib.Core.Path.{_≡_, refl, sym, ap, subst, _∙_}
-use mathlib.Core.Logic.{_⊎_, inl, inr, ⊎-elim}
+use mathlib.Core.Path.{_≡_, sym, ap, subst, _∙_}
+use mathlib.Core.Logic.{⊎-elim}
 use mathlib.Core.List.{List}
 use Prim.Native.Nat.{ℕ, _+_, _*_, _/_, _%_, _^_, _<_, _≤_}
 use native.Mathlib.Nat.{zero-div}
@@ -33,10 +33,10 @@ module _ (b scope entries : List ℕ) where
   tally-yes row xs ys good t was p o hp ho =
       ⊎-elim
       (λ e. subst (λ (c : ℕ). Counts (Bears b scope entries p o) (row + 1) c)
-          (sym (subst (λ (u : ℕ). getD ys (p * 32 + u) 0 ≡ getD xs (p * 32 + u) 0 + 1) e (t .hit p hp)))
-          (counts-yes (Bears b scope entries p o) row (getD xs (p * 32 + o) 0) (was p o hp ho) (record { suits = good; has = e })))
+      (sym (subst (λ (u : ℕ). getD ys (p * 32 + u) 0 ≡ getD xs (p * 32 + u) 0 + 1) e (t .hit p hp)))
+      (counts-yes (Bears b scope entries p o) row (getD xs (p * 32 + o) 0) (was p o hp ho) (record { suits = good; has = e })))
       (λ ne. subst (λ (c : ℕ). Counts (Bears b scope entries p o) (row + 1) c) (sym (t .miss p o ho (λ _. ne)))
-          (counts-no (Bears b scope entries p o) row (getD xs (p * 32 + o) 0) (was p o hp ho) (λ k. ne (k .has))))
+      (counts-no (Bears b scope entries p o) row (getD xs (p * 32 + o) 0) (was p o hp ho) (λ k. ne (k .has))))
       (cases-eq (optionAt entries row p) o)
 
 -- the open options of a slot are the bits of its cell
@@ -80,32 +80,32 @@ module _ (P : ℕ → Type 0) where
   pub marks-none : Marks P 0 0
   unfolding Bit
   marks-none = record {
-      sound = λ o h. absurd (let z : bit 0 o ≡ 0 = ap (λ n. n % 2) (zero-div (2 ^ o)) in let y : _≡_ {A = ℕ} 0 1 = sym z ∙ h in omega arith);
-      complete = λ o h. absurd (omega arith);
-    }
+    sound = λ o h. absurd (let z : bit 0 o ≡ 0 = ap (λ n. n % 2) (zero-div (2 ^ o)) in let y : _≡_ {A = ℕ} 0 1 = sym z ∙ h in omega arith);
+    complete = λ o h. absurd (omega arith);
+  }
 
   pub marks-no : (n m : ℕ) → (P n → ⊥) → Marks P n m → Marks P (n + 1) m
   marks-no n m none was = record {
-      sound = λ o h. let t = was .sound o h in (let l : o < n = t .0 in omega arith, t .1);
-      complete = below-more (λ o. P o → Bit m o) n (was .complete) (λ h. absurd (none h));
-    }
+    sound = λ o h. let t = was .sound o h in (let l : o < n = t .0 in omega arith, t .1);
+    complete = below-more (λ o. P o → Bit m o) n (was .complete) (λ h. absurd (none h));
+  }
 
   pub marks-yes : (n m : ℕ) → n < 32 → P n → Marks P n m → Marks P (n + 1) (bitOr m ((1 * 2 ^ n) % 4294967296))
   unfolding Bit with-bit
   marks-yes n m low here was = record {
-      sound = λ o h. ⊎-elim
-          (λ e. (omega arith, subst P (sym e) here))
-          (λ ne. let t = was .sound o (sym (bit-kept m n o low ne) ∙ h) in (let l : o < n = t .0 in omega arith, t .1))
-          (cases-eq o n);
-      complete = below-more (λ o. P o → Bit (with-bit m n) o) n (λ o l h. bit-kept m n o low (λ e. omega arith) ∙ was .complete o l h) (λ h. bit-set m n low);
-    }
+    sound = λ o h. ⊎-elim
+        (λ e. (omega arith, subst P (sym e) here))
+        (λ ne. let t = was .sound o (sym (bit-kept m n o low ne) ∙ h) in (let l : o < n = t .0 in omega arith, t .1))
+        (cases-eq o n);
+    complete = below-more (λ o. P o → Bit (with-bit m n) o) n (λ o l h. bit-kept m n o low (λ e. omega arith) ∙ was .complete o l h) (λ h. bit-set m n low);
+  }
 
 -- what is counted fewer times than there are lists
 pub room-marks : (counts sizes : List ℕ) (p many mask : ℕ) → many ≡ product (set sizes p 1) → Marks (Fewer counts many p) 32 mask → Marks (Room counts sizes p) 32 mask
 room-marks counts sizes p many mask e k = record {
-    sound = λ o h. let t = k .sound o h in (t .0, record { room = subst (λ (n : ℕ). getD counts (p * 32 + o) 0 < n) e (t .1 .less) });
-    complete = λ o l h. k .complete o l (record { less = subst (λ (n : ℕ). getD counts (p * 32 + o) 0 < n) (sym e) (h .room) });
-  }
+  sound = λ o h. let t = k .sound o h in (t .0, record { room = subst (λ (n : ℕ). getD counts (p * 32 + o) 0 < n) e (t .1 .less) });
+  complete = λ o l h. k .complete o l (record { less = subst (λ (n : ℕ). getD counts (p * 32 + o) 0 < n) (sym e) (h .room) });
+}
 
 -- the masks, position by position
 pub masks-more : (counts sizes masks : List ℕ) (position mask : ℕ) → position < length masks → Marks (Room counts sizes position) 32 mask

@@ -1,8 +1,8 @@
 -- A list without doubles within another: counting its places tells whether it has all of them. Assumes nothing.
 use mathlib.Core.Path.{_≡_, refl, sym, ap, subst, _∙_}
 use mathlib.Core.Logic.{_⊎_, inl, inr, ⊎-elim}
-use mathlib.Core.List.{List, [], _∷_, _++_, map}
-use Prim.Native.Nat.{ℕ, suc, _+_, _<_, _≤_}
+use mathlib.Core.List.{List, [], _∷_}
+use Prim.Native.Nat.{suc, _<_, _≤_}
 use native.Mathlib.Omega.{arith}
 use lib.ListN.{length}
 use Rattle.bar.specs.Counted.{In, NoDup}
@@ -46,16 +46,18 @@ module _ {A : Type 0} where
     within : (x : A) (zs : List A) → Dec (In x zs)
     within x [] = no (λ i. i)
     within x (z ∷ zs) = elim (same x z) [
-        yes e ↦ yes (inl e)
-      | no ne ↦ elim (within x zs) [ yes i ↦ yes (inr i) | no ni ↦ no (⊎-elim ne ni) ] ]
+      | yes e ↦ yes (inl e)
+      | no ne ↦ elim (within x zs) [ yes i ↦ yes (inr i) | no ni ↦ no (⊎-elim ne ni) ]
+    ]
 
     -- some item of ys is not in zs, or every one is
     pub spare : (ys zs : List A) → ((y : A) × In y ys × (In y zs → ⊥)) ⊎ Sub ys zs
     spare [] zs = inr (λ y i. absurd i)
     spare (y ∷ ys) zs = elim (within y zs) [
-        no ni ↦ inl (y, inl refl, ni)
+      | no ni ↦ inl (y, inl refl, ni)
       | yes i ↦ ⊎-elim (λ t. inl (t .0, inr (t .1), t .2))
-                  (λ s. inr (λ x. ⊎-elim (λ e. in-same x y zs e i) (s x))) (spare ys zs) ]
+          (λ s. inr (λ x. ⊎-elim (λ e. in-same x y zs e i) (s x))) (spare ys zs)
+    ]
 
     -- the pigeonhole: with fewer than the places, some item of ys is not in zs
     pub fewer-spares : (ys zs : List A) → NoDup ys → length zs < length ys → (y : A) × In y ys × (In y zs → ⊥)
@@ -64,5 +66,6 @@ module _ {A : Type 0} where
     -- as many as the places: every item of ys is in zs
     pub as-many-all : (ys zs : List A) → NoDup zs → Sub zs ys → length ys ≤ length zs → Sub ys zs
     as-many-all ys zs u s h y i = elim (within y zs) [
-        yes j ↦ j
-      | no nj ↦ absurd (omega (arith, sub-length (y ∷ zs) ys (nj, u) (λ x. ⊎-elim (λ e. in-same x y ys e i) (s x)))) ]
+      | yes j ↦ j
+      | no nj ↦ absurd (omega (arith, sub-length (y ∷ zs) ys (nj, u) (λ x. ⊎-elim (λ e. in-same x y ys e i) (s x))))
+    ]

@@ -3,7 +3,7 @@ use mathlib.Core.Path.{_≡_, refl, sym, ap, subst, _∙_}
 use mathlib.Core.Logic.{_⊎_, inl, inr, ⊎-elim}
 use mathlib.Core.List.{List, [], _∷_, _++_, map, List-discrete}
 use Prim.Native.Nat.{ℕ, zero, suc, _+_, _*_, _<_, _≤_}
-use native.Mathlib.Nat.{suc-mul, zero-mul, one-mul}
+use native.Mathlib.Nat.{suc-mul, zero-mul}
 use native.Mathlib.Omega.{arith}
 use lib.ListN.{length, getD, set, length-append, length-map}
 use native.Mathlib.Decide.{ℕ-discrete}
@@ -64,10 +64,11 @@ of-map f z (y ∷ s) (inr i) = let t = of-map f z s i in (t .0, inr (t .1), t .2
 
 pub once-map : {A B : Type 0} (f : A → B) (s : List A) → ((x y : A) → In x s → In y s → f x ≡ f y → x ≡ y) → NoDup s → NoDup (map f s)
 once-map f [] inj u = tt
-once-map {A} f (x ∷ s) inj u =
-    (λ i. let t = of-map f (f x) s i in
-        u .0 (subst (λ (z : A). In z s) (sym (inj x (t .0) (inl refl) (inr (t .1)) (t .2))) (t .1)),
-     once-map f s (λ y z i j. inj y z (inr i) (inr j)) (u .1))
+once-map {A} f (x ∷ s) inj u = (
+  λ i. let t = of-map f (f x) s i in
+      u .0 (subst (λ (z : A). In z s) (sym (inj x (t .0) (inl refl) (inr (t .1)) (t .2))) (t .1)),
+  once-map f s (λ y z i j. inj y z (inr i) (inr j)) (u .1),
+)
 
 module _ {A : Type 0} where
   head-same : (x y : A) (s t : List A) → x ∷ s ≡ y ∷ t → x ≡ y
@@ -80,24 +81,24 @@ module _ {A : Type 0} where
   in-spread x l [] ps i j = absurd i
   in-spread x l (o ∷ os) ps (inl e) j =
       in-left (x ∷ l) (map (λ m. o ∷ m) ps) (spread os ps)
-        (subst (λ (z : A). In (x ∷ l) (map (λ m. z ∷ m) ps)) e (in-map (λ m. x ∷ m) l ps j))
+      (subst (λ (z : A). In (x ∷ l) (map (λ m. z ∷ m) ps)) e (in-map (λ m. x ∷ m) l ps j))
   in-spread x l (o ∷ os) ps (inr i) j = in-right (x ∷ l) (map (λ m. o ∷ m) ps) (spread os ps) (in-spread x l os ps i j)
 
   of-spread : (z : List A) (os : List A) (ps : List (List A)) → In z (spread os ps) → (x : A) × (l : List A) × In x os × In l ps × (z ≡ x ∷ l)
   of-spread z [] ps i = absurd i
   of-spread z (o ∷ os) ps i = ⊎-elim
-    (λ j. let t = of-map (λ m. o ∷ m) z ps j in (o, t .0, inl refl, t .1, t .2))
-    (λ j. let t = of-spread z os ps j in (t .0, t .1, inr (t .2), t .3, t .4))
-    (in-cases z (map (λ m. o ∷ m) ps) (spread os ps) i)
+      (λ j. let t = of-map (λ m. o ∷ m) z ps j in (o, t .0, inl refl, t .1, t .2))
+      (λ j. let t = of-spread z os ps j in (t .0, t .1, inr (t .2), t .3, t .4))
+      (in-cases z (map (λ m. o ∷ m) ps) (spread os ps) i)
 
   once-spread : (os : List A) (ps : List (List A)) → NoDup os → NoDup ps → NoDup (spread os ps)
   once-spread [] ps u v = tt
   once-spread (o ∷ os) ps u v =
       once-append (map (λ m. o ∷ m) ps) (spread os ps)
-        (once-map (λ m. o ∷ m) ps (λ x y i j e. tail-same o o x y e) v)
-        (once-spread os ps (u .1) v)
-        (λ z i j. let s = of-map (λ m. o ∷ m) z ps i in let t = of-spread z os ps j in
-          u .0 (subst (λ (y : A). In y os) (sym (head-same o (t .0) (s .0) (t .1) (sym (s .2) ∙ t .4))) (t .2)))
+      (once-map (λ m. o ∷ m) ps (λ x y i j e. tail-same o o x y e) v)
+      (once-spread os ps (u .1) v)
+      (λ z i j. let s = of-map (λ m. o ∷ m) z ps i in let t = of-spread z os ps j in
+      u .0 (subst (λ (y : A). In y os) (sym (head-same o (t .0) (s .0) (t .1) (sym (s .2) ∙ t .4))) (t .2)))
 
   long-spread : (os : List A) (ps : List (List A)) → length (spread os ps) ≡ length os * length ps
   long-spread [] ps = sym (zero-mul (length ps))
@@ -171,10 +172,11 @@ pub pigeonhole : (oss : List (List ℕ)) (p o : ℕ) (zs : List (List ℕ)) → 
 pigeonhole oss p o zs u h i once inside =
     let ys : List (List ℕ) = points (set oss p (o ∷ [])) in
     let long : length (points (set oss p (o ∷ []))) ≡ product (set (map length oss) p 1) = long-points (set oss p (o ∷ [])) ∙ ap product (long-set oss p o) in
-    let sub : Sub zs (points (set oss p (o ∷ []))) = λ l j. let t = inside l j in in-points l (set oss p (o ∷ [])) (chosen-set l oss p o 0 (t .0) h (t .1)) in
-    (λ lt.
-       let t = fewer-spares (List-discrete ℕ-discrete) (points (set oss p (o ∷ []))) zs (once-points (set oss p (o ∷ [])) (once-set oss p o u)) (omega arith) in
-       let s = set-chosen (t .0) oss p o 0 h i (of-points (t .0) (set oss p (o ∷ [])) (t .1)) in
-       (t .0, s .0, s .1, t .2),
-     λ le l c e. as-many-all (List-discrete ℕ-discrete) (points (set oss p (o ∷ []))) zs once sub (omega arith) l
-       (in-points l (set oss p (o ∷ [])) (chosen-set l oss p o 0 c h e)))
+    let sub : Sub zs (points (set oss p (o ∷ []))) = λ l j. let t = inside l j in in-points l (set oss p (o ∷ [])) (chosen-set l oss p o 0 (t .0) h (t .1)) in (
+      λ lt.
+          let t = fewer-spares (List-discrete ℕ-discrete) (points (set oss p (o ∷ []))) zs (once-points (set oss p (o ∷ [])) (once-set oss p o u)) (omega arith) in
+          let s = set-chosen (t .0) oss p o 0 h i (of-points (t .0) (set oss p (o ∷ [])) (t .1)) in
+          (t .0, s .0, s .1, t .2),
+      λ le l c e. as-many-all (List-discrete ℕ-discrete) (points (set oss p (o ∷ []))) zs once sub (omega arith) l
+          (in-points l (set oss p (o ∷ [])) (chosen-set l oss p o 0 c h e)),
+    )

@@ -1,5 +1,5 @@
 -- The product of the other sizes, factor by factor. Assumes nothing.
-use mathlib.Core.Path.{_≡_, refl, sym, ap, subst, _∙_}
+use mathlib.Core.Path.{_≡_, sym, ap, subst, _∙_}
 use mathlib.Core.List.{List}
 use Prim.Native.Nat.{ℕ, _+_, _*_, _^_, _<_, _≤_}
 use native.Mathlib.Nat.{mul-assoc, one-mul, mul-one, pow-le-pow-right}
@@ -18,24 +18,24 @@ module _ (sizes : List ℕ) (arity position place many : ℕ) (long : length siz
   step h = at-drop-more product (set (take arity sizes) position 1) place 0 (omega (arith, xs-long))
 
   pub others-more : place < arity → (place ≡ position → ⊥)
-    → many * product (drop place (set (take arity sizes) position 1)) ≡ product (set (take arity sizes) position 1)
-    → many * getD sizes place 0 * product (drop (place + 1) (set (take arity sizes) position 1)) ≡ product (set (take arity sizes) position 1)
+      → many * product (drop place (set (take arity sizes) position 1)) ≡ product (set (take arity sizes) position 1)
+      → many * getD sizes place 0 * product (drop (place + 1) (set (take arity sizes) position 1)) ≡ product (set (take arity sizes) position 1)
   others-more h ne was =
       mul-assoc many (getD sizes place 0) (product (drop (place + 1) (set (take arity sizes) position 1)))
       ∙ ap (λ n. many * (n * product (drop (place + 1) (set (take arity sizes) position 1)))) (sym (getD-set-other (take arity sizes) position place 1 0 ne ∙ getD-take arity sizes place 0 h))
       ∙ ap (λ n. many * n) (sym (step h)) ∙ was
 
   pub others-same : place < arity → place ≡ position
-    → many * product (drop place (set (take arity sizes) position 1)) ≡ product (set (take arity sizes) position 1)
-    → many * product (drop (place + 1) (set (take arity sizes) position 1)) ≡ product (set (take arity sizes) position 1)
+      → many * product (drop place (set (take arity sizes) position 1)) ≡ product (set (take arity sizes) position 1)
+      → many * product (drop (place + 1) (set (take arity sizes) position 1)) ≡ product (set (take arity sizes) position 1)
   others-same h e was =
       let one : getD (set (take arity sizes) position 1) place 0 ≡ 1 =
-            ap (λ k. getD (set (take arity sizes) position 1) k 0) e ∙ getD-set-same (take arity sizes) position 1 0 (simp length-take (omega arith)) in
+      ap (λ k. getD (set (take arity sizes) position 1) k 0) e ∙ getD-set-same (take arity sizes) position 1 0 (simp length-take (omega arith)) in
       ap (λ n. many * n) (sym (step h ∙ ap (λ n. n * product (drop (place + 1) (set (take arity sizes) position 1))) one ∙ one-mul (product (drop (place + 1) (set (take arity sizes) position 1))))) ∙ was
 
   pub others-all : arity ≤ place
-    → many * product (drop place (set (take arity sizes) position 1)) ≡ product (set (take arity sizes) position 1)
-    → many ≡ product (set (take arity sizes) position 1)
+      → many * product (drop place (set (take arity sizes) position 1)) ≡ product (set (take arity sizes) position 1)
+      → many ≡ product (set (take arity sizes) position 1)
   others-all h was = sym (ap (λ n. many * n) (at-drop-all product (set (take arity sizes) position 1) place (omega (arith, xs-long))) ∙ mul-one many) ∙ was
 
 pub times : (many s place : ℕ) → many ≤ 32 ^ place → s ≤ 32 → many * s ≤ 32 ^ (place + 1)

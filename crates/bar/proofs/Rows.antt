@@ -1,9 +1,9 @@
 -- What a bar sheet keeps, by its rows. Assumes nothing.
-use mathlib.Core.Path.{_≡_, refl, sym, ap, subst, _∙_}
-use mathlib.Core.Bool.{Bool, true, false, not, _&&_, _||_}
-use mathlib.Core.Logic.{_⊎_, inl, inr, ⊎-elim}
+use mathlib.Core.Path.{_≡_, refl, sym, ap, _∙_}
+use mathlib.Core.Bool.{true, false, not, _&&_}
+use mathlib.Core.Logic.{⊎-elim}
 use mathlib.Core.List.{List, [], _∷_}
-use Prim.Native.Nat.{ℕ, zero, suc, _+_, _*_, _/_, _<_, _≤_}
+use Prim.Native.Nat.{ℕ, zero, suc, _+_, _*_, _/_, _<_}
 use native.Mathlib.Nat.{add-zero, zero-add}
 use native.Mathlib.Omega.{arith}
 use borrow.Author.Needs.{needs}
@@ -13,10 +13,9 @@ use Rattle.std.specs.Orderings.{Decides}
 use Rattle.std.proofs.shelf.Equals.{compares-decides}
 use Rattle.std.proofs.shelf.Lists.{ext-getD}
 use Rattle.std.proofs.shelf.Tests.{false≢true, both-ways, and-parts, and-from, or-cases, or-left, or-right, not-true, not-from-false, lt-ltb, eq-eqb, cases-bool}
-use Rattle.boxes.specs.Boxes.{Open, Fits}
+use Rattle.boxes.specs.Boxes.{Fits}
 use Rattle.boxes.proofs.Bits.{open-low}
-use Rattle.catalogue.specs.declared.make.Make.{Make}
-use Rattle.catalogue.specs.declared.make.Make.the-variants.{Fit, Bar, Load}
+use Rattle.catalogue.specs.declared.make.Make.the-variants.{Bar}
 use Rattle.catalogue.specs.Content.{Sheet, GoodSheet}
 use Rattle.catalogue.specs.Checks.{all, same, hasList, isLoad}
 use Rattle.catalogue.specs.Views.{Shown, showing}
@@ -64,14 +63,14 @@ pub free-kept : (b : List ℕ) (v : Shown) (l : List ℕ) → Fits b (v .scope) 
 unfolding keeps
 free-kept b v l f free =
     let listed : isList (length (v .scope)) l ≡ true = and-from (eqb (length l) (length (v .scope))) (all (λ o. ltb o 32) l)
-          (eq-eqb (length l) (length (v .scope)) (f .long))
-          (low-all l (λ p h. open-low b (getD (v .scope) p 0) (getD l p 0) (f .each p (omega (arith, f .long))))) in
+    (eq-eqb (length l) (length (v .scope)) (f .long))
+    (low-all l (λ p h. open-low b (getD (v .scope) p 0) (getD l p 0) (f .each p (omega (arith, f .long))))) in
     let none : hasList l (rowsOf v) ≡ false = ⊎-elim
-          (λ e. let t = found-at l (rowsOf v) e in
-            let low : t .0 < length (v .entries) / 9 = let h : t .0 < length (rowsOf v) = t .1 in omega (arith, rows-long (v .entries) (length (v .scope)) 0 (length (v .entries) / 9)) in
-            absurd (free (t .0) low (sym (row-of v (t .0) low) ∙ t .2)))
-          (λ e. e)
-          (cases-bool (hasList l (rowsOf v))) in
+    (λ e. let t = found-at l (rowsOf v) e in
+    let low : t .0 < length (v .entries) / 9 = let h : t .0 < length (rowsOf v) = t .1 in omega (arith, rows-long (v .entries) (length (v .scope)) 0 (length (v .entries) / 9)) in
+    absurd (free (t .0) low (sym (row-of v (t .0) low) ∙ t .2)))
+    (λ e. e)
+    (cases-bool (hasList l (rowsOf v))) in
     and-from (isList (length (v .scope)) l) (not (hasList l (rowsOf v))) listed (not-from-false (hasList l (rowsOf v)) none)
 
 -- what is kept is no row
@@ -80,7 +79,7 @@ unfolding keeps
 kept-free v l k r h e =
     let none : hasList l (rowsOf v) ≡ false = not-true (hasList l (rowsOf v)) (and-parts (isList (length (v .scope)) l) (not (hasList l (rowsOf v))) k .1) in
     both-ways (hasList l (rowsOf v)) none
-      (at-found l (rowsOf v) r (omega (arith, rows-long (v .entries) (length (v .scope)) 0 (length (v .entries) / 9))) (row-of v r h ∙ e))
+    (at-found l (rowsOf v) r (omega (arith, rows-long (v .entries) (length (v .scope)) 0 (length (v .entries) / 9))) (row-of v r h ∙ e))
 
 -- A good bar sheet keeps, as it is shown, what its rule admits.
 rows-are : (options : List ℕ) (t : Sheet) → GoodSheet options t → t .make ≡ Bar → rowsOf (showing t) ≡ t .rows
@@ -89,7 +88,7 @@ rows-are options t g m =
     let total : length (entryBytes t) / 9 ≡ length (t .rows) = omega arith in
     let all-rows : length (rowsOf (showing t)) ≡ length (entryBytes t) / 9 = rows-long (entryBytes t) (length (t .scope)) 0 (length (entryBytes t) / 9) in
     ext-getD [] (rowsOf (showing t)) (t .rows) (all-rows ∙ total)
-      (λ i h. row-of (showing t) i (omega arith) ∙ row-at options t g i (omega arith))
+    (λ i h. row-of (showing t) i (omega arith) ∙ row-at options t g i (omega arith))
 
 pub keeps-admits : (options : List ℕ) (t : Sheet) → GoodSheet options t → t .make ≡ Bar → (l : List ℕ) → keeps (showing t) l ≡ admits t l
 unfolding keeps

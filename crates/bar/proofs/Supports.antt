@@ -1,10 +1,10 @@
 -- An option is supported exactly where fewer fitting rows have it than there are fitting lists that do. Assumes nothing.
 use mathlib.Core.Path.{_≡_, refl, sym, ap, subst, _∙_}
-use mathlib.Core.Logic.{_⊎_, inl, inr, ⊎-elim}
+use mathlib.Core.Logic.{⊎-elim}
 use mathlib.Core.List.{List, [], _∷_, map}
 use Prim.Native.Nat.{ℕ, zero, suc, _+_, _*_, _<_, _≤_}
 use native.Mathlib.Omega.{arith}
-use lib.ListN.{length, getD, set, take, drop, length-take, length-drop, length-map}
+use lib.ListN.{length, getD, set, take, length-take, length-drop, length-map}
 use lib.Seq.{getD-take, getD-drop}
 use Rattle.std.proofs.shelf.Tests.{cases-order, cases-lt}
 use Rattle.boxes.specs.Boxes.{Open, Fits}
@@ -25,9 +25,9 @@ option-at entries k r p h = rw (getD-take, getD-drop)
 module _ (b scope entries : List ℕ) (r : ℕ) where
   suits-fits : length scope ≤ 8 → 9 * r + 9 ≤ length entries → Suits b scope entries r (length scope) → Fits b scope (rowAt entries (length scope) r)
   suits-fits short h s = record {
-      long = row-long entries (length scope) r short h;
-      each = λ p l. subst (λ (o : ℕ). Open b (getD scope p 0) o) (sym (option-at entries (length scope) r p l)) (s .each p l);
-    }
+    long = row-long entries (length scope) r short h;
+    each = λ p l. subst (λ (o : ℕ). Open b (getD scope p 0) o) (sym (option-at entries (length scope) r p l)) (s .each p l);
+  }
 
   fits-suits : Fits b scope (rowAt entries (length scope) r) → Suits b scope entries r (length scope)
   fits-suits f = record { each = λ p l. subst (λ (o : ℕ). Open b (getD scope p 0) o) (option-at entries (length scope) r p l) (f .each p l) }
@@ -85,9 +85,10 @@ module _ (b : List ℕ) where
   fits-chosen (s ∷ ss) [] z l f = absurd z
   fits-chosen (s ∷ ss) (n ∷ ns) z [] f = omega (arith, f .long)
   fits-chosen (s ∷ ss) (n ∷ ns) z (x ∷ l) f =
-      let h = f .each 0 (omega arith) in
-      (z .0 .complete x (open-low b s x h) h,
-       fits-chosen ss ns (z .1) l (record { long = omega (arith, f .long); each = λ p q. f .each (suc p) (omega arith) }))
+      let h = f .each 0 (omega arith) in (
+        z .0 .complete x (open-low b s x h) h,
+        fits-chosen ss ns (z .1) l (record { long = omega (arith, f .long); each = λ p q. f .each (suc p) (omega arith) }),
+      )
 
   chosen-fits : (ss ns : List ℕ) (z : Sized ss ns) (l : List ℕ) → Chosen l (optionsOf ss ns z) → Fits b ss l
   chosen-fits [] [] z [] c = record { long = refl; each = λ p h. absurd (omega arith) }
@@ -99,15 +100,15 @@ module _ (b : List ℕ) where
       let f : Fits b ss l = chosen-fits ss ns (z .1) l (c .1) in
       record { long = omega (arith, f .long); each = go f }
     where
-    go : Fits b ss l → (p : ℕ) → p < length (s ∷ ss) → Open b (getD (s ∷ ss) p 0) (getD (x ∷ l) p 0)
-    go f zero h = z .0 .sound x (c .0) .1
-    go f (suc p) h = f .each p (omega arith)
+      go : Fits b ss l → (p : ℕ) → p < length (s ∷ ss) → Open b (getD (s ∷ ss) p 0) (getD (x ∷ l) p 0)
+      go f zero h = z .0 .sound x (c .0) .1
+      go f (suc p) h = f .each p (omega arith)
 
 -- an open option of the scope, and the rows that bear it
 module _ (b scope entries ns : List ℕ) (total : ℕ) (short : length scope ≤ 8) (whole : 9 * total ≤ length entries)
-         (apart : RowsApart entries (length scope) total) (z : Sized b scope ns)
-         (p o c : ℕ) (hp : p < length scope) (here : Open b (getD scope p 0) o)
-         (counts : Counts (Bears b scope entries p o) total c) where
+    (apart : RowsApart entries (length scope) total) (z : Sized b scope ns)
+    (p o c : ℕ) (hp : p < length scope) (here : Open b (getD scope p 0) o)
+    (counts : Counts (Bears b scope entries p o) total c) where
   bearing : List (List ℕ)
   bearing = map (rowAt entries (length scope)) (counts .list)
 
@@ -127,8 +128,9 @@ module _ (b scope entries ns : List ℕ) (total : ℕ) (short : length scope ≤
   unfolding bearing
   in-bearing r l low e f h =
       let bears : Bears b scope entries p o r = record {
-            suits = fits-suits b scope entries r (subst (λ (m : List ℕ). Fits b scope m) (sym e) f);
-            has = sym (option-at entries (length scope) r p hp) ∙ ap (λ m. getD m p 0) e ∙ h } in
+        suits = fits-suits b scope entries r (subst (λ (m : List ℕ). Fits b scope m) (sym e) f);
+        has = sym (option-at entries (length scope) r p hp) ∙ ap (λ m. getD m p 0) e ∙ h;
+      } in
       subst (λ (m : List ℕ). In m (map (rowAt entries (length scope)) (counts .list))) e (in-map (rowAt entries (length scope)) r (counts .list) (counts .complete r low bears))
 
   bearing-once : NoDup bearing
@@ -144,7 +146,7 @@ module _ (b scope entries ns : List ℕ) (total : ℕ) (short : length scope ≤
       (fits-chosen b scope ns z l f, ap (λ m. getD m p 0) (t .3) ∙ option-at entries (length scope) (t .0) p hp ∙ t .2 .has)
 
   spare : (length bearing < product (set (map length (optionsOf b scope ns z)) p 1) → (l : List ℕ) × Chosen l (optionsOf b scope ns z) × (getD l p 0 ≡ o) × (In l bearing → ⊥))
-        × (product (set (map length (optionsOf b scope ns z)) p 1) ≤ length bearing → (l : List ℕ) → Chosen l (optionsOf b scope ns z) → getD l p 0 ≡ o → In l bearing)
+      × (product (set (map length (optionsOf b scope ns z)) p 1) ≤ length bearing → (l : List ℕ) → Chosen l (optionsOf b scope ns z) → getD l p 0 ≡ o → In l bearing)
   spare =
       pigeonhole (optionsOf b scope ns z) p o bearing (options-once b scope ns z) (omega (arith, options-long b scope ns z)) (options-at b scope ns z p o hp here) bearing-once bearing-chosen
 
@@ -162,7 +164,7 @@ module _ (b scope entries ns : List ℕ) (total : ℕ) (short : length scope ≤
   spared-only-if : Spared b scope entries total p o → c < product (set ns p 1)
   spared-only-if s = ⊎-elim (λ h. h)
       (λ h. let t = of-bearing (s .list) (spare .1 (omega (arith, bearing-long, others-is)) (s .list) (fits-chosen b scope ns z (s .list) (s .fits)) (s .holds)) in
-        absurd (s .free (t .0) (t .1) (sym (t .3))))
+      absurd (s .free (t .0) (t .1) (sym (t .3))))
       (cases-lt c (product (set ns p 1)))
 
 -- the whole
@@ -175,14 +177,16 @@ backs b scope entries sizes counts masks total short eight whole apart each tall
     let ns = take (length scope) sizes in
     let long : length scope ≡ length (take (length scope) sizes) = simp length-take (omega arith) in
     let z : Sized b scope (take (length scope) sizes) = sized-from b scope (take (length scope) sizes) long
-          (λ q h. subst (λ (n : ℕ). Counts (Open b (getD scope q 0)) 32 n) (sym (getD-take (length scope) sizes q 0 h)) (each q h)) in
+    (λ q h. subst (λ (n : ℕ). Counts (Open b (getD scope q 0)) 32 n) (sym (getD-take (length scope) sizes q 0 h)) (each q h)) in
     record {
       sound = λ p o hp here h.
           spared-if b scope entries (take (length scope) sizes) total short whole apart z p o (getD counts (p * 32 + o) 0) hp here (tallied p o hp (open-low b (getD scope p 0) o here))
-            (marked p hp .sound o h .1 .room);
+          (marked p hp .sound o h .1 .room);
       complete = λ p o hp s.
           let here : Open b (getD scope p 0) o = subst (Open b (getD scope p 0)) (s .holds) (s .fits .each p hp) in
           let low : o < 32 = open-low b (getD scope p 0) o here in
-          marked p hp .complete o low (record { room =
-            spared-only-if b scope entries (take (length scope) sizes) total short whole apart z p o (getD counts (p * 32 + o) 0) hp here (tallied p o hp low) s });
+          marked p hp .complete o low (record {
+            room =
+                spared-only-if b scope entries (take (length scope) sizes) total short whole apart z p o (getD counts (p * 32 + o) 0) hp here (tallied p o hp low) s;
+          });
     }

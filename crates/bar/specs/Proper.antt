@@ -1,10 +1,10 @@
 -- What holds of the bar sheets of a sound catalogue, and that they are a proper binder. Assumes nothing.
 use mathlib.Core.Path.{_≡_, refl, sym, ap, subst, _∙_}
-use mathlib.Core.Bool.{Bool, true, false, cond, not, _&&_}
+use mathlib.Core.Bool.{Bool, true, false, not, _&&_}
 use mathlib.Core.Logic.{∥∥₁-elim}
 use mathlib.Core.HLevel.{⊥-prop}
 use mathlib.Core.List.{List, [], _∷_, map}
-use Prim.Native.Nat.{ℕ, zero, suc, _+_, _*_, _/_, _<_, _≤_}
+use Prim.Native.Nat.{ℕ, zero, suc, _*_, _/_, _<_, _≤_}
 use native.Mathlib.Bridge.{le-prop}
 use native.Mathlib.Omega.{arith}
 use lib.Dec.{T, ltb, eqb}
@@ -19,10 +19,10 @@ use Rattle.catalogue.specs.Content.{Sheet, Apart, GoodSheet, rowsIn}
 use Rattle.catalogue.specs.Checks.{all, isLoad}
 use Rattle.catalogue.specs.Views.{isMake, Shown, showing, shownBy}
 use Rattle.catalogue.specs.Writing.{entryBytes}
-use Rattle.binder.specs.Meaning.{Binding, Listed, Proper}
-use Rattle.sheets.specs.Tables.{Taken, shownIn, shownAt, rowAt}
+use Rattle.binder.specs.Meaning.{Listed, Proper}
+use Rattle.sheets.specs.Tables.{Taken, shownIn, shownAt}
 use Rattle.sheets.specs.Rules.{isList}
-use Rattle.sheets.proofs.Tabled.{At, at}
+use Rattle.sheets.proofs.Tabled.{at}
 use Rattle.sheets.proofs.Entries.{entries-rows, row-at}
 use Rattle.bar.specs.Tally.{RowsApart}
 use Rattle.bar.specs.Bars.{keeps, barring}
@@ -45,8 +45,8 @@ apart-at d (x ∷ xs) a zero (suc j) l h e = all-getD (λ y. x ≡ y → ⊥) xs
 apart-at d (x ∷ xs) a (suc i) (suc j) l h e = apart-at d xs (a .1) i j (omega arith) (omega arith) e
 
 -- a good bar sheet is shown as one
-sound-showing : (options : List ℕ) (t : Sheet) → length options ≤ 48 → GoodSheet options t → t .make ≡ Bar → length (t .rows) ≤ 4096 → GoodBar (showing t)
-sound-showing options t low g m few =
+good-showing : (options : List ℕ) (t : Sheet) → length options ≤ 48 → GoodSheet options t → t .make ≡ Bar → length (t .rows) ≤ 4096 → GoodBar (showing t)
+good-showing options t low g m few =
     let long : length (entryBytes t) ≡ 9 * length (t .rows) = entries-rows options t g (ap isLoad m) in
     let total : length (entryBytes t) / 9 ≡ length (t .rows) = omega arith in
     record {
@@ -72,32 +72,32 @@ few-rows options (t ∷ ts) (v ∷ vs) (suc n) (suc s) good bars e l h =
     let rest : map showing ts ≡ shownIn vs n = cc in
     omega (arith, few-rows options ts vs n s (good .1) (bars .1) rest (omega arith) (omega arith))
 
-sound-taken : (views : List View) (n : ℕ) (t : Taken Bar views n) (s : ℕ) → s < n → n ≤ length views → GoodBar (shownAt views s)
-sound-taken views n t s l h =
+good-taken : (views : List View) (n : ℕ) (t : Taken Bar views n) (s : ℕ) → s < n → n ≤ length views → GoodBar (shownAt views s)
+good-taken views n t s l h =
     let a = at Bar views n t s l h in
     let some : length (entryBytes (a .sheet)) ≡ length (shownAt views s .entries) = ap (λ k. length (k .entries)) (sym (a .shows)) in
     let few : length (a .sheet .rows) ≤ 4096 = omega (arith, t .rows, few-rows (t .options) (t .sheets) views n s (t .good) (t .one-make) (t .is) l h, entries-rows (t .options) (a .sheet) (a .good) (ap isLoad (a .make))) in
-    subst GoodBar (sym (a .shows)) (sound-showing (t .options) (a .sheet) (t .slots) (a .good) (a .make) few)
+    subst GoodBar (sym (a .shows)) (good-showing (t .options) (a .sheet) (t .slots) (a .good) (a .make) few)
 
 same-make : (m : Make) → isMake Bar m ≡ true → m ≡ Bar
 same-make Fit e = absurd (false≢true e)
 same-make Bar e = refl
 same-make Load e = absurd (false≢true e)
 
--- the views that a table of bar sheets holds are sound, though it does not say by what catalogue
+-- the views of a table of bar sheets are good, though it does not say by what catalogue
 module _ (m : Make) (views : List View) (n : ℕ) (bars : isMake Bar m ≡ true) (taken : ∥ Taken m views n ∥₁) (few : n ≤ 64) (long : length views ≡ 64) where
   sure : {P : Type 0} → IsProp P → (s : ℕ) → s < n → (GoodBar (shownAt views s) → P) → P
-  sure prop s l f = ∥∥₁-elim taken prop (λ t. f (sound-taken views n (subst (λ (k : Make). Taken k views n) (same-make m bars) t) s l (omega arith)))
+  sure prop s l f = ∥∥₁-elim taken prop (λ t. f (good-taken views n (subst (λ (k : Make). Taken k views n) (same-make m bars) t) s l (omega arith)))
 
-  pub sound-at : (s : ℕ) → s < n → GoodBar (shownAt views s)
-  sound-at s l = record {
-      some = sure le-prop s l (λ k. k .some);
-      short = sure le-prop s l (λ k. k .short);
-      slots = λ p h. sure le-prop s l (λ k. k .slots p h);
-      apart = λ p q h j e. sure ⊥-prop s l (λ k. k .apart p q h j e);
-      few = sure le-prop s l (λ k. k .few);
-      rows = λ u v h j e. sure ⊥-prop s l (λ k. k .rows u v h j e);
-    }
+  pub good-at : (s : ℕ) → s < n → GoodBar (shownAt views s)
+  good-at s l = record {
+    some = sure le-prop s l (λ k. k .some);
+    short = sure le-prop s l (λ k. k .short);
+    slots = λ p h. sure le-prop s l (λ k. k .slots p h);
+    apart = λ p q h j e. sure ⊥-prop s l (λ k. k .apart p q h j e);
+    few = sure le-prop s l (λ k. k .few);
+    rows = λ u v h j e. sure ⊥-prop s l (λ k. k .rows u v h j e);
+  }
 
 -- the scope of a sheet that is there
 pub scope-there : (views : List View) (n marks s : ℕ) → s < n → barring views n marks .scope s ≡ shownAt views s .scope
@@ -117,7 +117,7 @@ keeps-listed v l e =
     let long : length l ≡ length (v .scope) = eqb-true (length l) (length (v .scope)) (parts .0) in
     record { long = long; low = λ p h. all-low l (parts .1) p (omega arith) }
 
-is-true : (b : Bool) → T b → b ≡ true
+pub is-true : (b : Bool) → T b → b ≡ true
 is-true true t = refl
 is-true false t = absurd t
 
@@ -132,14 +132,14 @@ scopes P views n marks f s l = subst P (sym (scope-there views n marks s l)) (f 
 
 pub barring-proper : (m : Make) (views : List View) (n marks : ℕ) → isMake Bar m ≡ true → ∥ Taken m views n ∥₁ → n ≤ 64 → length views ≡ 64 → marks ≤ 72 → Proper (barring views n marks)
 barring-proper m views n marks bars taken few long low =
-    let sound : (s : ℕ) → s < n → GoodBar (shownAt views s) = sound-at m views n bars taken few long in
+    let good : (s : ℕ) → s < n → GoodBar (shownAt views s) = good-at m views n bars taken few long in
     record {
       few = omega arith;
       low = low;
-      some = scopes (λ x. 1 ≤ length x) views n marks (λ s l. sound s l .some);
-      short = scopes (λ x. length x ≤ 8) views n marks (λ s l. sound s l .short);
-      slots = λ s p l. scopes (λ x. p < length x → getD x p 0 < 48) views n marks (λ s l. sound s l .slots p) s l;
-      apart = λ s p q l. scopes (λ x. p < q → q < length x → getD x p 0 ≡ getD x q 0 → ⊥) views n marks (λ s l. sound s l .apart p q) s l;
+      some = scopes (λ x. 1 ≤ length x) views n marks (λ s l. good s l .some);
+      short = scopes (λ x. length x ≤ 8) views n marks (λ s l. good s l .short);
+      slots = λ s p l. scopes (λ x. p < length x → getD x p 0 < 48) views n marks (λ s l. good s l .slots p) s l;
+      apart = λ s p q l. scopes (λ x. p < q → q < length x → getD x p 0 ≡ getD x q 0 → ⊥) views n marks (λ s l. good s l .apart p q) s l;
       listed = kept-listed views n marks;
       listed-then = λ i. kept-listed views n marks;
     }

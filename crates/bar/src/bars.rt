@@ -23,7 +23,7 @@ use sheets::taking::sheets_of;
 const MARKS: usize = 72;
 
 // What a sheet keeps never changes, so that a mark is only counted.
-#[derive(Clone, Copy)]
+#[derive(Drop)]
 pub struct Bar<'a> {
     sheets: Sheets<'a>,
     marks: usize,

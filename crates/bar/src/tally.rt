@@ -4,7 +4,6 @@ ghost use Prim.Native.Nat.{ℕ, _+_, _*_, _<_, _≤_, _/_};
 ghost use lib.ListN.{length, getD, set, take};
 ghost use Rattle.std.specs.Orderings.{Decides};
 ghost use Rattle.boxes.specs.Boxes.{Open, Bit};
-ghost use Rattle.sheets.specs.Tables.{rowAt};
 ghost use Rattle.bar.specs.Counted.{Counts, product};
 ghost use Rattle.bar.specs.Tally.{optionAt, Suits, Bears, Tallied, Fewer, Room, Marks, RowsApart, Backs};
 use boxes::OptionBox;
@@ -28,8 +27,8 @@ fn row_fits(entries: &[u8], row: usize, scope: &[u8], slate: &OptionBox) -> bool
 // Counts a row once at each position, under the option that it has there.
 fn tally_row(entries: &[u8], row: usize, arity: usize, counts: &mut [u32; 256])
     requires { ⌜ arity ≤ 8 ⌝ ∗ ⌜ 9 * row + 9 ≤ length (now entries) ⌝
-             ∗ ⌜ ((p : ℕ) → p < arity → optionAt (now entries) row p < 32) ⌝
-             ∗ ⌜ ((p o : ℕ) → p < arity → o < 32 → getD (now counts) (p * 32 + o) 0 < 65536) ⌝ }
+        ∗ ⌜ ((p : ℕ) → p < arity → optionAt (now entries) row p < 32) ⌝
+        ∗ ⌜ ((p o : ℕ) → p < arity → o < 32 → getD (now counts) (p * 32 + o) 0 < 65536) ⌝ }
     ensures { λ _. ⌜ Tallied (now (entries .entry)) row arity (now (counts .entry)) (now (counts .exit)) ⌝ }
 {
     for position in 0..arity {
