@@ -50,7 +50,7 @@ pub record Spared (b scope entries : List ℕ) (total p o : ℕ) : Type 0 where
   pub holds : getD list p 0 ≡ o
   pub free : (r : ℕ) → r < total → rowAt entries (length scope) r ≡ list → ⊥
 
--- the masks are, at each position, the open options that some list with none of the rows has there
+-- an open option has its bit in the mask of a position exactly where it is spared there
 pub record Backs (b scope entries : List ℕ) (total : ℕ) (masks : List ℕ) : Type 0 where
   pub sound : (p o : ℕ) → p < length scope → Open b (getD scope p 0) o → Bit (getD masks p 0) o → Spared b scope entries total p o
   pub complete : (p o : ℕ) → p < length scope → Spared b scope entries total p o → Bit (getD masks p 0) o

@@ -22,7 +22,8 @@ use sheets::taking::sheets_of;
 // The most marks that may stand.
 const MARKS: usize = 72;
 
-// What a sheet keeps never changes, so that a mark is only counted.
+// Each sheet keeps every list that is not among its rows. What it keeps never changes, so that a mark is
+// only counted.
 #[derive(Drop)]
 pub struct Bar<'a> {
     sheets: Sheets<'a>,

@@ -1,4 +1,6 @@
-// Finds by counting which options of a bar sheet's scope are supported.
+// Finds by counting which options of a bar sheet's scope are supported: those that some list has which
+// fits the box and is not among the rows. Rows are all different, so such a list is left exactly where
+// fewer fitting rows have the option than there are fitting lists that do.
 ghost use mathlib.Core.Path.{_≡_};
 ghost use Prim.Native.Nat.{ℕ, _+_, _*_, _<_, _≤_, _/_};
 ghost use lib.ListN.{length, getD, set, take};
@@ -57,6 +59,8 @@ fn sizes_of(scope: &[u8], slate: &OptionBox) -> [u64; 8]
 }
 
 // Of the rows that fit the box, how many have each option at each position.
+//
+//   counts:  [ position 0: options 0 .. 31 | position 1: options 0 .. 31 | .. | position 7 ]
 fn tally(entries: &[u8], total: usize, scope: &[u8], slate: &OptionBox) -> [u32; 256]
     requires { ⌜ length (now scope) ≤ 8 ⌝ ∗ ⌜ 9 * total ≤ length (now entries) ⌝ ∗ ⌜ total ≤ 65536 ⌝ }
     ensures { λ r. ⌜ ((p o : ℕ) → p < length (now (scope .entry)) → o < 32 → Counts (Bears (now (slate .entry) .cells) (now (scope .entry)) (now (entries .entry)) p o) total (getD r (p * 32 + o) 0)) ⌝ }
@@ -70,7 +74,8 @@ fn tally(entries: &[u8], total: usize, scope: &[u8], slate: &OptionBox) -> [u32;
     counts
 }
 
-// How many lists fit the box and have a given open option at a position: the product of the other sizes.
+// How many lists fit the box and have a given open option at a position: the product of the other sizes,
+// which is 0 where another slot has no open option.
 fn others(sizes: &[u64; 8], arity: usize, position: usize) -> u64
     requires { ⌜ arity ≤ 8 ⌝ ∗ ⌜ ((p : ℕ) → p < arity → getD (now sizes) p 0 ≤ 32) ⌝ }
     ensures { λ r. ⌜ r ≡ product (set (take arity (now (sizes .entry))) position 1) ⌝ }
@@ -110,7 +115,7 @@ fn masks_of(counts: &[u32; 256], sizes: &[u64; 8], arity: usize) -> [u32; 8]
     masks
 }
 
-// At each position, the open options that some list has which fits the box and is not among the rows.
+// At each position, the supported options. A bit may be set for an option that is not open.
 pub(crate) fn supports(entries: &[u8], scope: &[u8], slate: &OptionBox) -> [u32; 8]
     requires short { ⌜ length (now scope) ≤ 8 ⌝ }
     requires slots { ⌜ ((p : ℕ) → p < length (now scope) → getD (now scope) p 0 < 48) ⌝ }

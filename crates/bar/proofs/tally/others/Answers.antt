@@ -1,4 +1,4 @@
-use Prim.Native.Nat.{ℕ, _<_}
+use Prim.Native.Nat.{_<_}
 use native.Mathlib.Omega.{arith}
 use lib.ListN.{getD}
 use Rattle.bar.proofs.Products.{others-more, others-same, others-all, times, grown, small}
@@ -7,7 +7,6 @@ use Rattle.bar.proofs.tally.others.Needs.{then-place-position, else-place-posi
 
 pub mul-many : need.mul-many
 mul-many c =
-    let i : ℕ = c .loop-place .place in
     let h : c .loop-place .place < 8 = omega arith in
     omega (
       arith,
@@ -17,9 +16,6 @@ mul-many c =
 
 pub loop-place-again : need.loop-place-again
 loop-place-again c =
-    let xs = c .args .sizes .now in
-    let i : ℕ = c .loop-place .place in
-    let m : ℕ = c .loop-place .many in
     let lt : c .loop-place .place < c .args .arity = c .loop-place-test .taken in
     elim (c .if-place-position .came) [
       | then-place-position w ↦
