@@ -1,0 +1,4 @@
+pub mod Counted
+pub mod Tally
+pub mod Bars
+pub mod Proper
