@@ -1,5 +1,5 @@
 -- How the rows and weights of a sound sheet are read from its bytes. Assumes nothing.
-use mathlib.Core.Path.{_≡_, refl, sym, ap, subst, _∙_}
+use mathlib.Core.Path.{_≡_, refl, sym, ap, _∙_}
 use mathlib.Core.Bool.{true, false}
 use mathlib.Core.Logic.{⊎-elim}
 use mathlib.Core.List.{List, [], _∷_, _++_, append-assoc, append-nil}
@@ -20,7 +20,7 @@ use Rattle.std.proofs.shelf.Tests.{cases-lt, false≢true}
 use Rattle.catalogue.specs.declared.make.Make.{Make}
 use Rattle.catalogue.specs.declared.make.Make.the-variants.{Fit, Bar, Load}
 use Rattle.catalogue.specs.Content.{Weight, Sheet, GoodRow, GoodWeight, GoodSheet, Lacks}
-use Rattle.catalogue.specs.Writing.{padded, rowBytes, weightBytes, entryBytes}
+use Rattle.catalogue.specs.Writing.{rowBytes, weightBytes, entryBytes}
 use Rattle.catalogue.specs.Checks.{isLoad, signedTwo}
 use Rattle.catalogue.proofs.Passing.{length-padded, length-row}
 use Rattle.sheets.specs.Tables.{rowAt}

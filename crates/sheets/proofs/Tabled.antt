@@ -10,7 +10,7 @@ use Rattle.std.proofs.shelf.Lists.{length-map, length-take-le}
 use Rattle.catalogue.specs.declared.make.Make.{Make}
 use Rattle.catalogue.specs.declared.view.View.{View}
 use Rattle.catalogue.specs.Content.{Sheet, GoodSheet}
-use Rattle.catalogue.specs.Views.{Shown, showing, shownBy}
+use Rattle.catalogue.specs.Views.{showing, shownBy}
 use Rattle.sheets.specs.Tables.{Taken, shownIn, shownAt}
 use Rattle.sheets.specs.Rules.{scopeAt, admitsAt, admits}
 
