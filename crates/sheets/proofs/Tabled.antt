@@ -67,3 +67,9 @@ none-at [] s h = record { scope = refl; admits = λ l. refl }
 none-at (t ∷ ts) zero h = absurd (omega arith)
 none-at (t ∷ ts) (suc s) h =
     let n = none-at ts s (omega arith) in record { scope = n .scope; admits = n .admits }
+
+-- past the last view nothing is shown
+pub shown-past : (views : List View) (s : ℕ) → length views ≤ s → shownAt views s ≡ shownAt [] 0
+shown-past [] s h = refl
+shown-past (v ∷ vs) zero h = absurd (omega arith)
+shown-past (v ∷ vs) (suc s) h = shown-past vs s (omega arith)

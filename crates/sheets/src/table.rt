@@ -1,11 +1,14 @@
 // The sheets of one make, as a checked catalogue shows them: what every make of binder stands on.
 ghost use mathlib.Core.Path.{_≡_};
-ghost use Prim.Native.Nat.{_<_, _≤_};
+ghost use Prim.Native.Nat.{_≤_};
 ghost use lib.ListN.{length};
 ghost use Rattle.catalogue.specs.Views.{shownBy};
 ghost use Rattle.sheets.specs.Tables.{Taken, shownAt};
 use catalogue::make::Make;
 use catalogue::view::View;
+
+// How many sheets there can be.
+const SHEETS: usize = 64;
 
 // As many values of one type as there can be sheets. The array has a struct of its own over a type
 // parameter, since an array of views can be put into no other.
@@ -27,11 +30,17 @@ pub struct Sheets<'a> {
 }
 
 impl<'a> Sheets<'a> {
-    // Sheet s, counted from 0.
+    // Sheet s, counted from 0; what lies past the last of the table shows nothing.
     pub fn view(&self, s: usize) -> View<'a>
-        requires { ⌜ s < now self .count ⌝ }
         ensures { λ r. ⌜ shownBy r ≡ shownAt (now (self .entry) .views .items) s ⌝ }
     {
+        if s >= SHEETS {
+            return View {
+                scope: &[],
+                cap: 0,
+                entries: &[],
+            };
+        }
         let views = &self.views.items;
         views[s]
     }

@@ -77,13 +77,25 @@ fn one_box<B: Binder>(
 }
 
 // Shows all sheets of a make every box. In the binder they begin at `from`.
-pub fn every_box<B: Binder>(binder: &mut B, from: usize, catalogue: &Catalogue, make: Make) -> Tally {
+pub fn every_box<B: Binder>(
+    binder: &mut B,
+    from: usize,
+    catalogue: &Catalogue,
+    make: Make,
+) -> Tally {
     let mut tally = Tally::new();
     for i in 0..catalogue.sheet_count(make) {
         if let Some(view) = catalogue.sheet(make, i) {
             tally.sheets = tally.sheets.wrapping_add(1);
             for number in 0..BOXES {
-                one_box(binder, from.wrapping_add(i), make, &view, number, &mut tally);
+                one_box(
+                    binder,
+                    from.wrapping_add(i),
+                    make,
+                    &view,
+                    number,
+                    &mut tally,
+                );
             }
         }
     }

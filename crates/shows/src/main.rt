@@ -38,7 +38,11 @@ fn alone(rt: &LibcRuntime, catalogue: &Catalogue) -> io::Result<()> {
 fn together(rt: &LibcRuntime, catalogue: &Catalogue) -> io::Result<()> {
     let mut all = Join::new(Bar::new(catalogue), Bar::new(catalogue));
     let bars = catalogue.sheet_count(Make::Bar);
-    tell(rt, "bar in a join", every_box(&mut all, bars, catalogue, Make::Bar))
+    tell(
+        rt,
+        "bar in a join",
+        every_box(&mut all, bars, catalogue, Make::Bar),
+    )
 }
 
 fn run(rt: &LibcRuntime) -> Result<(), AnyError> {
