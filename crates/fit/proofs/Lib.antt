@@ -1,0 +1,3 @@
+pub mod Sifting
+pub mod Reading
+pub mod Masking
