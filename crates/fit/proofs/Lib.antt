@@ -1,3 +1,6 @@
 pub mod Sifting
 pub mod Reading
+pub mod Rowing
 pub mod Masking
+pub mod Marking
+pub mod Showing
