@@ -1,21 +1,14 @@
--- Views read out of a table, and the rows of one sheet against a box. Assumes nothing.
-use mathlib.Core.Path.{_≡_, refl, sym, subst, _∙_}
-use mathlib.Core.List.{List, [], _∷_}
-use Prim.Native.Nat.{ℕ, zero, suc, _+_, _*_, _<_, _≤_}
+-- The rows of one sheet against a box. Assumes nothing.
+use mathlib.Core.Path.{_≡_}
+use mathlib.Core.List.{List}
+use Prim.Native.Nat.{ℕ, _+_, _*_, _<_, _≤_}
 use native.Mathlib.Omega.{arith}
 use lib.ListN.{length, getD}
 use Rattle.catalogue.specs.declared.view.View.{View}
-use Rattle.catalogue.specs.Views.{shownBy}
 use Rattle.boxes.specs.Boxes.{Fits}
-use Rattle.sheets.specs.Tables.{shownAt}
 use Rattle.fit.specs.Rows.{optionAt, Suits}
 use Rattle.fit.specs.Laid.{scopeOf, entriesOf, rowCount, rowOf}
 use Rattle.fit.proofs.Reading.{row-at}
-
-pub shown-read : (views : List View) (s : ℕ) (d : View) → s < length views → shownBy (getD views s d) ≡ shownAt views s
-shown-read [] s d h = absurd (omega arith)
-shown-read (v ∷ vs) zero d h = refl
-shown-read (v ∷ vs) (suc s) d h = shown-read vs s d (omega arith)
 
 module _ (views : List View) (s : ℕ) where
   -- a row that is there lies whole in the entries

@@ -1,7 +1,7 @@
 -- How the fit sheets' rows are laid out in runs of places, one run for each sheet. Assumes nothing.
 use mathlib.Core.Path.{_≡_}
 use mathlib.Core.List.{List, []}
-use Prim.Native.Nat.{ℕ, _+_, _/_, _<_, _≤_}
+use Prim.Native.Nat.{ℕ, zero, suc, _+_, _/_, _<_, _≤_}
 use lib.ListN.{length, getD}
 use Rattle.catalogue.specs.declared.view.View.{View}
 use Rattle.sheets.specs.Tables.{shownAt, rowAt}
@@ -17,6 +17,11 @@ entriesOf views s = shownAt views s .entries
 unfoldable pub rowCount : List View → ℕ → ℕ
 rowCount views s = length (entriesOf views s) / 9
 
+-- how many rows the sheets before sheet s have
+abbrev pub rowsBefore : List View → ℕ → ℕ
+rowsBefore views zero = 0
+rowsBefore views (suc s) = rowsBefore views s + rowCount views s
+
 -- row r of sheet s
 unfoldable pub rowOf : List View → ℕ → ℕ → List ℕ
 rowOf views s r = rowAt (entriesOf views s) (length (scopeOf views s)) r
@@ -29,6 +34,26 @@ pub record Sound (views : List View) (count : ℕ) : Type 0 where
   pub apart : (s p q : ℕ) → s < count → p < q → q < length (scopeOf views s) → getD (scopeOf views s) p 0 ≡ getD (scopeOf views s) q 0 → ⊥
   pub long : (s r : ℕ) → s < count → r < rowCount views s → length (rowOf views s r) ≡ length (scopeOf views s)
   pub options : (s r p : ℕ) → s < count → r < rowCount views s → p < length (scopeOf views s) → getD (rowOf views s r) p 0 < 32
+
+-- the first k sheets' entries of a list are what f says
+pub record Each (f : ℕ → ℕ) (xs : List ℕ) (k : ℕ) : Type 0 where
+  pub long : length xs ≡ 64
+  pub is : (s : ℕ) → s < k → getD xs s 0 ≡ f s
+
+-- n runs of places, each behind the one before
+pub record Apart (starts counts : List ℕ) (n : ℕ) : Type 0 where
+  pub few : n ≤ 64
+  pub room : (s : ℕ) → s < n → getD starts s 0 + getD counts s 0 ≤ 4096
+  pub apart : (s t : ℕ) → s < t → t < n → getD starts s 0 + getD counts s 0 ≤ getD starts t 0
+
+-- the run of n places from `from` on holds the numbers from 0 up, and the other places are as they were
+pub record Run (xs ys : List ℕ) (from n : ℕ) : Type 0 where
+  pub here : (p : ℕ) → p < n → getD ys (from + p) 0 ≡ p
+  pub under : (p : ℕ) → p < from → getD ys p 0 ≡ getD xs p 0
+
+-- each of the first k runs holds the numbers from 0 up
+pub record Runs (starts counts order : List ℕ) (k : ℕ) : Type 0 where
+  pub each : (s p : ℕ) → s < k → p < getD counts s 0 → getD order (getD starts s 0 + p) 0 ≡ p
 
 -- Sheet s has the places from `starts` s on, as many as it has rows, and keeps the rows at the first `counts` s of them;
 -- at mark i it kept those at the first `saved` i s.

@@ -54,7 +54,7 @@ fitting views count starts order counts saved marks =
     }
 
 abbrev pub meaningOf : Fit → Binding
-meaningOf x = fitting (x .sheets .views) (x .sheets .count) (x .starts) (x .order) (x .counts) (x .saved) (x .marks)
+meaningOf x = fitting (x .sheets .views .items) (x .sheets .count) (x .starts) (x .order) (x .counts) (x .saved) (x .marks)
 
 -- after a showing of b, sheet s keeps exactly the lists that it kept before and that fit b
 pub record Exact (m n : Binding) (s : ℕ) (b : List ℕ) : Type 0 where
@@ -158,5 +158,5 @@ module _ (views : List View) (count : ℕ) (starts order counts : List ℕ) (sav
 
 pub properOf : (x : Fit) → Proper (meaningOf x)
 properOf x =
-    fitting-proper (x .sheets .views) (x .sheets .count) (x .starts) (x .order) (x .counts) (x .saved) (x .marks)
-    (laid-out (x .sheets .views) (x .sheets .count) (x .starts) (x .order) (x .counts) (x .saved) (x .marks) (x .laid))
+    fitting-proper (x .sheets .views .items) (x .sheets .count) (x .starts) (x .order) (x .counts) (x .saved) (x .marks)
+    (laid-out (x .sheets .views .items) (x .sheets .count) (x .starts) (x .order) (x .counts) (x .saved) (x .marks) (x .laid))

@@ -7,7 +7,6 @@ ghost use Rattle.binder.specs.Meaning.{Shown};
 ghost use Rattle.fit.specs.Meaning.{meaningOf, properOf, Exact};
 use crate::Fit;
 use crate::dropping::sift;
-use crate::views::view_in;
 use crate::support::supports;
 use binder::binders::Binder;
 use binder::refusal::Refusal;
@@ -34,7 +33,7 @@ pub impl<'a> Binder for Fit<'a> as FitBinder {
         if sheet >= self.sheets.count {
             return Err(Refusal::NotThere);
         }
-        let view = view_in(&self.sheets.views, sheet);
+        let view = self.sheets.view(sheet);
         Ok(view.scope.len())
     }
 
@@ -42,7 +41,7 @@ pub impl<'a> Binder for Fit<'a> as FitBinder {
         if sheet >= self.sheets.count {
             return Err(Refusal::NotThere);
         }
-        let view = view_in(&self.sheets.views, sheet);
+        let view = self.sheets.view(sheet);
         if position >= view.scope.len() {
             return Err(Refusal::NotThere);
         }
@@ -58,7 +57,7 @@ pub impl<'a> Binder for Fit<'a> as FitBinder {
         if sheet >= self.sheets.count {
             return Err(Refusal::NotThere);
         }
-        let view = view_in(&self.sheets.views, sheet);
+        let view = self.sheets.view(sheet);
         let start = self.starts[sheet] as usize;
         let count = self.counts[sheet] as usize;
         let left = sift(&mut self.order, start, count, view.entries, view.scope, slate);

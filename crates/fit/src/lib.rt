@@ -4,7 +4,7 @@ use sheets::table::Sheets;
 
 pub mod calls;
 mod dropping;
-mod views;
+pub mod filling;
 mod support;
 
 // The rows that a sheet keeps are a sparse set: the front of a run of places that hold row numbers.
@@ -23,5 +23,5 @@ pub struct Fit<'a> {
     counts: [u16; 64],
     saved: [[u16; 64]; 72],
     marks: usize,
-    ghost laid: { ∥ Laid (sheets .views) (sheets .count) starts order counts saved marks ∥₁ },
+    ghost laid: { ∥ Laid (sheets .views .items) (sheets .count) starts order counts saved marks ∥₁ },
 }

@@ -8,6 +8,6 @@ use Rattle.fit.proofs.calls.FitBinder.arity.Needs as need
 pub returns : need.returns
 returns c =
     let s = c .args .self .now in
-    let h = scope-here (s .sheets .views) (s .sheets .count) (c .args .sheet) (c .if-sheet-self .left) in
-    ap (λ l. Ok (length l)) (c .view-in-view .ensures .scope ∙ sym h)
+    let h = scope-here (s .sheets .views .items) (s .sheets .count) (c .args .sheet) (c .if-sheet-self .left) in
+    ap (λ l. Ok (length l)) (ap (λ v. v .scope) (c .view-view .ensures) ∙ sym h)
     ∙ sym (cond-true _ _ _ (lt-ltb _ _ (c .if-sheet-self .left)))

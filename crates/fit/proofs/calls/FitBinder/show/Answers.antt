@@ -16,14 +16,14 @@ sift-left-requires c κs =
     let s = c .args .self .now in
     let x = laid-out _ _ _ _ _ _ _ (s .laid) in
     let hs = c .if-sheet-self .left in
-    (subst (λ sc. length sc ≤ 8) (sym (c .view-in-view .ensures .scope)) (x .sound .short _ hs),
-    subst (λ es. Whole (s .order) es (getD (s .starts) (c .args .sheet) 0) (getD (s .counts) (c .args .sheet) 0)) (sym (c .view-in-view .ensures .entries)) (whole _ _ _ _ _ _ _ x _ hs))
+    (subst (λ sc. length sc ≤ 8) (sym (ap (λ v. v .scope) (c .view-view .ensures))) (x .sound .short _ hs),
+    subst (λ es. Whole (s .order) es (getD (s .starts) (c .args .sheet) 0) (getD (s .counts) (c .args .sheet) 0)) (sym (ap (λ v. v .entries) (c .view-view .ensures))) (whole _ _ _ _ _ _ _ x _ hs))
 
 pub ghost-self : need.ghost-self
 ghost-self c =
     let s = c .args .self .now in
     let x = laid-out _ _ _ _ _ _ _ (s .laid) in
-    let done = at-sheet _ _ _ _ (λ sc es. Sifted (Suits (c .args .slate .now .cells) sc es) (s .order) (c .sift-left .last .order) (getD (s .starts) (c .args .sheet) 0) (getD (s .counts) (c .args .sheet) 0) (c .sift-left .result)) (c .view-in-view .ensures .scope) (c .view-in-view .ensures .entries) (c .sift-left .ensures) in
+    let done = at-sheet _ _ _ _ (λ sc es. Sifted (Suits (c .args .slate .now .cells) sc es) (s .order) (c .sift-left .last .order) (getD (s .starts) (c .args .sheet) 0) (getD (s .counts) (c .args .sheet) 0) (c .sift-left .result)) (ap (λ v. v .scope) (c .view-view .ensures)) (ap (λ v. v .entries) (c .view-view .ensures)) (c .sift-left .ensures) in
     (∣ laid-sifted _ _ _ _ _ _ _ x _ (c .if-sheet-self .left) _ _ _ done ∣₁, tt)
 
 pub supports-masks-requires : need.supports-masks-requires
@@ -31,8 +31,8 @@ supports-masks-requires c κs =
     let s = c .args .self .now in
     let x = laid-out _ _ _ _ _ _ _ (s .laid) in
     let hs = c .if-sheet-self .left in
-    let scope = c .view-in-view .ensures .scope in
-    let entries = c .view-in-view .ensures .entries in
+    let scope = ap (λ v. v .scope) (c .view-view .ensures) in
+    let entries = ap (λ v. v .entries) (c .view-view .ensures) in
     let from : ℕ = getD (s .starts) (c .args .sheet) 0 in
     let done = at-sheet _ _ _ _ (λ sc es. Sifted (Suits (c .args .slate .now .cells) sc es) (s .order) (c .sift-left .last .order) from (getD (s .counts) (c .args .sheet) 0) (c .sift-left .result)) scope entries (c .sift-left .ensures) in
     record {
@@ -47,8 +47,8 @@ returns c =
     let s = c .args .self .now in
     let x = laid-out _ _ _ _ _ _ _ (s .laid) in
     let hs = c .if-sheet-self .left in
-    let scope = c .view-in-view .ensures .scope in
-    let entries = c .view-in-view .ensures .entries in
+    let scope = ap (λ v. v .scope) (c .view-view .ensures) in
+    let entries = ap (λ v. v .entries) (c .view-view .ensures) in
     let from : ℕ = getD (s .starts) (c .args .sheet) 0 in
     let b : List ℕ = c .args .slate .now .cells in
     let done = at-sheet _ _ _ _ (λ sc es. Sifted (Suits b sc es) (s .order) (c .sift-left .last .order) from (getD (s .counts) (c .args .sheet) 0) (c .sift-left .result)) scope entries (c .sift-left .ensures) in
