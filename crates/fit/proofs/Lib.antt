@@ -4,3 +4,5 @@ pub mod Rowing
 pub mod Masking
 pub mod Marking
 pub mod Showing
+pub mod Filled
+pub mod Newly

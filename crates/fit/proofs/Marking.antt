@@ -38,14 +38,20 @@ module _ (views : List View) (count : ℕ) (starts order counts : List ℕ) (sav
     pub laid-marked : Laid views count starts order counts (set saved marks counts) (marks + 1)
     laid-marked =
         record {
-          sound = x .sound; few = x .few; low = omega arith; counted = x .counted;
+          sound = x .sound;
+          few = x .few;
+          low = omega arith;
+          counted = x .counted;
           deep = length-set saved marks counts ∙ x .deep;
           wide = λ i h.
               ⊎-elim
               (λ e. ap (λ k. length (getD (set saved marks counts) k [])) e ∙ ap length newest ∙ x .counted)
               (λ ne. ap length (getD-set-other saved marks i counts [] ne) ∙ x .wide i h)
               (cases-eq i marks);
-          within = x .within; room = x .room; apart = x .apart; rows = x .rows;
+          within = x .within;
+          room = x .room;
+          apart = x .apart;
+          rows = x .rows;
           above = λ i s h k. saved-more (λ j r. getD counts s 0 ≤ getD r s 0) (λ j q. x .above j s q k) (omega arith) i h;
           capped = λ i s h k. saved-more (λ j r. getD r s 0 ≤ rowCount views s) (λ j q. x .capped j s q k) (x .within s k) i h;
           falls = λ i j s lt h k.
@@ -75,11 +81,16 @@ module _ (views : List View) (count : ℕ) (starts order counts : List ℕ) (sav
     laid-undone =
         let least : marks ≤ 72 = x .low in
         record {
-          sound = x .sound; few = x .few; low = omega arith;
+          sound = x .sound;
+          few = x .few;
+          low = omega arith;
           counted = x .wide (marks - 1) (omega arith);
-          deep = x .deep; wide = x .wide;
+          deep = x .deep;
+          wide = x .wide;
           within = λ s h. x .capped (marks - 1) s (omega arith) h;
-          room = x .room; apart = x .apart; rows = x .rows;
+          room = x .room;
+          apart = x .apart;
+          rows = x .rows;
           above = λ i s h k. x .falls i (marks - 1) s h (omega arith) k;
           capped = λ i s h k. x .capped i s (omega arith) k;
           falls = λ i j s lt h k. x .falls i j s lt (omega arith) k;

@@ -89,13 +89,19 @@ module _ (views : List View) (count : ℕ) (starts order counts : List ℕ) (sav
     pub laid-sifted : Laid views count starts order′ (set counts s left) saved marks
     laid-sifted =
         record {
-          sound = x .sound; few = x .few; low = x .low;
+          sound = x .sound;
+          few = x .few;
+          low = x .low;
           counted = length-set counts s left ∙ x .counted;
-          deep = x .deep; wide = x .wide;
+          deep = x .deep;
+          wide = x .wide;
           within = λ t h. omega (arith, low t, x .within t h);
-          room = x .room; apart = x .apart; rows = rows-after;
+          room = x .room;
+          apart = x .apart;
+          rows = rows-after;
           above = λ i t h k. omega (arith, low t, x .above i t h k);
-          capped = x .capped; falls = x .falls;
+          capped = x .capped;
+          falls = x .falls;
         }
 
     pub whole-after : Whole order′ (entriesOf views s) (getD starts s 0) left
@@ -159,7 +165,7 @@ module _ (views : List View) (count : ℕ) (starts order counts : List ℕ) (sav
     pub exact : Exact (fitting views count starts order counts saved marks) (fitting views count starts order′ (set counts s left) saved marks) s b
     exact =
         record {
-          fitting = λ l.
+          just = λ l.
               decides-like (keeps views count starts order′ s (getD (set counts s left) s 0) l)
               (λ z. (was-decides l .1 (kept-before l z), scoped (λ sc. Fits b sc l) (kept-fits l z)))
               (λ z. kept-still l (was-decides l .0 (z .0)) (unscoped (λ sc. Fits b sc l) (z .1)))
@@ -169,16 +175,16 @@ module _ (views : List View) (count : ℕ) (starts order counts : List ℕ) (sav
     masks-hold : (masks : List ℕ) → Gathered b (scopeOf views s) order′ (entriesOf views s) masks (getD starts s 0) left (length (scopeOf views s)) → Masks (fitting views count starts order counts saved marks) s b masks
     masks-hold masks g =
         let sound : (p o : ℕ) → p < length (scopeOf views s) → Bit (getD masks p 0) o → (l : List ℕ) × Keeps views starts order′ s left l × (getD l p 0 ≡ o)
-            = λ p o h bit.
-            let k = g .each p h .sound o bit in
-            let r : ℕ = getD order′ (getD starts s 0 + k .place) 0 in
-            (rowOf views s r, record { row = r; among = record { place = k .place; below = k .below; is = refl }; reads = refl }, option-row views s r p h ∙ k .has) in
+        = λ p o h bit.
+        let k = g .each p h .sound o bit in
+        let r : ℕ = getD order′ (getD starts s 0 + k .place) 0 in
+        (rowOf views s r, record { row = r; among = record { place = k .place; below = k .below; is = refl }; reads = refl }, option-row views s r p h ∙ k .has) in
         let complete : (p o : ℕ) → p < length (scopeOf views s) → (l : List ℕ) → Keeps views starts order s (getD counts s 0) l → Fits b (scopeOf views s) l → getD l p 0 ≡ o → Bit (getD masks p 0) o
-            = λ p o h l kept fits holds.
-            let z = kept-still l kept fits in
-            let has : optionAt (entriesOf views s) (getD order′ (getD starts s 0 + z .among .place) 0) p ≡ o
-                = ap (λ r. optionAt (entriesOf views s) r p) (z .among .is) ∙ sym (option-row views s (z .row) p h) ∙ ap (λ r. getD r p 0) (z .reads) ∙ holds in
-            g .each p h .complete o (record { place = z .among .place; below = z .among .below; has = has }) (subst (Open b (getD (scopeOf views s) p 0)) holds (fits .each p h)) in
+        = λ p o h l kept fits holds.
+        let z = kept-still l kept fits in
+        let has : optionAt (entriesOf views s) (getD order′ (getD starts s 0 + z .among .place) 0) p ≡ o
+        = ap (λ r. optionAt (entriesOf views s) r p) (z .among .is) ∙ sym (option-row views s (z .row) p h) ∙ ap (λ r. getD r p 0) (z .reads) ∙ holds in
+        g .each p h .complete o (record { place = z .among .place; below = z .among .below; has = has }) (subst (Open b (getD (scopeOf views s) p 0)) holds (fits .each p h)) in
         record {
           sound = λ p o h isOpen bit.
               let z = sound p o (unscoped (λ sc. p < length sc) h) bit in
@@ -196,16 +202,16 @@ module _ (views : List View) (count : ℕ) (starts order counts : List ℕ) (sav
         → Shown (fitting views count starts order counts saved marks) (fitting views count starts order′ (set counts s left) saved marks) s b c
     shown c masks g narrowed =
         let box = shown-by-masks (fitting views count starts order counts saved marks) s b c masks
-            (scoped (λ sc. (p q : ℕ) → p < q → q < length sc → getD sc p 0 ≡ getD sc q 0 → ⊥) (λ p q. x .sound .apart s p q hs))
-            (masks-hold masks g)
-            (scoped (λ sc. Narrowed b c sc masks (length sc)) narrowed) in
+        (scoped (λ sc. (p q : ℕ) → p < q → q < length sc → getD sc p 0 ≡ getD sc q 0 → ⊥) (λ p q. x .sound .apart s p q hs))
+        (masks-hold masks g)
+        (scoped (λ sc. Narrowed b c sc masks (length sc)) narrowed) in
         record {
           supported = box .supported;
           spared = box .spared;
           elsewhere = box .elsewhere;
           only-closes = box .only-closes;
-          still = λ l t fits. to-T _ (exact .fitting l .1 (from-T _ t, fits));
-          none-added = λ l t. to-T _ (exact .fitting l .0 (from-T _ t) .0);
+          still = λ l t fits. to-T _ (exact .just l .1 (from-T _ t, fits));
+          none-added = λ l t. to-T _ (exact .just l .0 (from-T _ t) .0);
           others = λ t ne l.
               let same : getD (set counts s left) t 0 ≡ getD counts t 0 = getD-set-other counts s t left 0 ne in
               ap (λ n. keeps views count starts order′ t n l) same

@@ -58,7 +58,7 @@ meaningOf x = fitting (x .sheets .views .items) (x .sheets .count) (x .starts) (
 
 -- after a showing of b, sheet s keeps exactly the lists that it kept before and that fit b
 pub record Exact (m n : Binding) (s : ℕ) (b : List ℕ) : Type 0 where
-  pub fitting : (l : List ℕ) → Decides (n .kept s l) ((m .kept s l ≡ true) × Fits b (m .scope s) l)
+  pub just : (l : List ℕ) → Decides (n .kept s l) ((m .kept s l ≡ true) × Fits b (m .scope s) l)
 
 -- Laws of these definitions.
 pub scope-here : (views : List View) (count s : ℕ) → s < count → scopeIn views count s ≡ scopeOf views s

@@ -60,7 +60,14 @@ pub impl<'a> Binder for Fit<'a> as FitBinder {
         let view = self.sheets.view(sheet);
         let start = self.starts[sheet] as usize;
         let count = self.counts[sheet] as usize;
-        let left = sift(&mut self.order, start, count, view.entries, view.scope, slate);
+        let left = sift(
+            &mut self.order,
+            start,
+            count,
+            view.entries,
+            view.scope,
+            slate,
+        );
         self.counts[sheet] = left as u16;
         let masks = supports(&self.order, start, left, view.entries, view.scope, slate);
         keep_only(slate, view.scope, &masks[..]);

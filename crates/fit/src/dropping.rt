@@ -4,6 +4,7 @@ ghost use lib.ListN.{length};
 ghost use Rattle.std.specs.Orderings.{Decides};
 ghost use Rattle.fit.specs.Runs.{Sifted};
 ghost use Rattle.fit.specs.Rows.{Suits, Whole};
+use crate::ROW;
 use boxes::OptionBox;
 
 // Whether a row fits the box.
@@ -12,7 +13,7 @@ fn row_fits(entries: &[u8], scope: &[u8], row: usize, slate: &OptionBox) -> bool
     ensures { λ r. ⌜ Decides r (Suits (now (slate .entry) .cells) (now (scope .entry)) (now (entries .entry)) row) ⌝ }
 {
     for position in 0..scope.len() {
-        if !slate.is_open(scope[position] as usize, entries[9 * row + 1 + position]) {
+        if !slate.is_open(scope[position] as usize, entries[ROW * row + 1 + position]) {
             return false;
         }
     }
@@ -20,7 +21,14 @@ fn row_fits(entries: &[u8], scope: &[u8], row: usize, slate: &OptionBox) -> bool
 }
 
 // Drops the rows that do not fit from the `count` places from `start` on, and says how many are left.
-pub fn sift(order: &mut [u16; 4096], start: usize, count: usize, entries: &[u8], scope: &[u8], slate: &OptionBox) -> usize
+pub(crate) fn sift(
+    order: &mut [u16; 4096],
+    start: usize,
+    count: usize,
+    entries: &[u8],
+    scope: &[u8],
+    slate: &OptionBox,
+) -> usize
     requires { ⌜ length (now scope) ≤ 8 ⌝ ∗ ⌜ Whole (now order) (now entries) start count ⌝ }
     ensures { λ r. ⌜ Sifted (Suits (now (slate .entry) .cells) (now (scope .entry)) (now (entries .entry))) (now (order .entry)) (now (order .exit)) start count r ⌝ }
 {

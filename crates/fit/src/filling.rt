@@ -1,15 +1,26 @@
 // Fills a fit binder from a checked catalogue.
-ghost use Prim.Native.Nat.{_+_, _≤_};
+ghost use mathlib.Core.Path.{_≡_};
+ghost use Prim.Native.Nat.{_+_, _<_, _≤_};
 ghost use Rattle.catalogue.specs.Verdict.{content};
 ghost use Rattle.sheets.specs.Tables.{sheetsIn};
 ghost use Rattle.sheets.specs.Rules.{Fresh};
 ghost use Rattle.fit.specs.Laid.{rowCount, rowsBefore, Each, Apart, Run, Runs};
 ghost use Rattle.fit.specs.Meaning.{meaningOf};
 use crate::Fit;
+use crate::ROW;
 use catalogue::checked::Catalogue;
 use catalogue::make::Make;
 use sheets::table::Sheets;
 use sheets::taking::sheets_of;
+
+// How many rows a sheet has.
+fn row_count(sheets: &Sheets, sheet: usize) -> usize
+    requires { ⌜ sheet < now sheets .count ⌝ }
+    ensures { λ r. ⌜ r ≡ rowCount (now (sheets .entry) .views .items) sheet ⌝ }
+{
+    let view = sheets.view(sheet);
+    view.entries.len() / ROW
+}
 
 // How many rows each sheet has.
 fn row_counts(sheets: &Sheets) -> [u16; 64]
@@ -18,8 +29,7 @@ fn row_counts(sheets: &Sheets) -> [u16; 64]
 {
     let mut counts = [0; 64];
     for sheet in 0..sheets.count {
-        let view = sheets.view(sheet);
-        counts[sheet] = (view.entries.len() / 9) as u16;
+        counts[sheet] = row_count(sheets, sheet) as u16;
     }
     counts
 }
@@ -33,8 +43,7 @@ fn run_starts(sheets: &Sheets) -> [u16; 64]
     let mut start = 0;
     for sheet in 0..sheets.count {
         starts[sheet] = start as u16;
-        let view = sheets.view(sheet);
-        start += view.entries.len() / 9;
+        start += row_count(sheets, sheet);
     }
     starts
 }

@@ -7,6 +7,9 @@ mod dropping;
 pub mod filling;
 mod support;
 
+// How many bytes a row has: its kind, and an option or a byte that is not used for each of eight positions.
+const ROW: usize = 9;
+
 // The rows that a sheet keeps are a sparse set: the front of a run of places that hold row numbers.
 //
 //   order:  .. | 4  0  2 : 3  1 | ..    the run of a sheet with five rows

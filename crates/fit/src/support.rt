@@ -2,11 +2,19 @@
 ghost use Prim.Native.Nat.{ℕ, _<_, _≤_};
 ghost use lib.ListN.{length, getD};
 ghost use Rattle.fit.specs.Rows.{Whole, Low, Gathered};
+use crate::ROW;
 use boxes::OptionBox;
 
 // The masks of the positions, from the rows at the `count` places from `start` on. A position is done with
 // once all that its slot has open is supported.
-pub fn supports(order: &[u16; 4096], start: usize, count: usize, entries: &[u8], scope: &[u8], slate: &OptionBox) -> [u32; 8]
+pub(crate) fn supports(
+    order: &[u16; 4096],
+    start: usize,
+    count: usize,
+    entries: &[u8],
+    scope: &[u8],
+    slate: &OptionBox,
+) -> [u32; 8]
     requires short { ⌜ length (now scope) ≤ 8 ⌝ }
     requires slots { ⌜ ((p : ℕ) → p < length (now scope) → getD (now scope) p 0 < 48) ⌝ }
     requires whole { ⌜ Whole (now order) (now entries) start count ⌝ }
@@ -18,7 +26,7 @@ pub fn supports(order: &[u16; 4096], start: usize, count: usize, entries: &[u8],
         let open = slate.cells[scope[position] as usize];
         'rows: for place in 0..count {
             let row = order[start + place] as usize;
-            masks[position] |= 1 << entries[9 * row + 1 + position];
+            masks[position] |= 1 << entries[ROW * row + 1 + position];
             if masks[position] == open {
                 continue 'positions;
             }

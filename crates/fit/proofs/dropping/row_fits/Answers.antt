@@ -7,9 +7,10 @@ use Rattle.fit.proofs.dropping.row_fits.Needs as need
 
 pub returns-then-not-is-open : need.returns-then-not-is-open
 unfolding optionAt
-returns-then-not-is-open c =
-    (λ t. absurd (false≢true t),
-    λ s. absurd (both-ways _ (c .if-not-is-open .taken) (c .is-open .ensures .1 (suits-at _ _ _ _ s (c .loop-position .position) (omega arith)))))
+returns-then-not-is-open c = (
+  λ t. absurd (false≢true t),
+  λ s. absurd (both-ways _ (c .if-not-is-open .taken) (c .is-open .ensures .1 (suits-at _ _ _ _ s (c .loop-position .position) (omega arith)))),
+)
 
 pub loop-position-again : need.loop-position-again
 unfolding optionAt

@@ -15,9 +15,10 @@ pub sift-left-requires : need.sift-left-requires
 sift-left-requires c κs =
     let s = c .args .self .now in
     let x = laid-out _ _ _ _ _ _ _ (s .laid) in
-    let hs = c .if-sheet-self .left in
-    (subst (λ sc. length sc ≤ 8) (sym (ap (λ v. v .scope) (c .view-view .ensures))) (x .sound .short _ hs),
-    subst (λ es. Whole (s .order) es (getD (s .starts) (c .args .sheet) 0) (getD (s .counts) (c .args .sheet) 0)) (sym (ap (λ v. v .entries) (c .view-view .ensures))) (whole _ _ _ _ _ _ _ x _ hs))
+    let hs = c .if-sheet-self .left in (
+      subst (λ sc. length sc ≤ 8) (sym (ap (λ v. v .scope) (c .view-view .ensures))) (x .sound .short _ hs),
+      subst (λ es. Whole (s .order) es (getD (s .starts) (c .args .sheet) 0) (getD (s .counts) (c .args .sheet) 0)) (sym (ap (λ v. v .entries) (c .view-view .ensures))) (whole _ _ _ _ _ _ _ x _ hs),
+    )
 
 pub ghost-self : need.ghost-self
 ghost-self c =
