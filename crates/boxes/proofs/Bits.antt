@@ -26,7 +26,7 @@ bit-xor : (a b k : ℕ) → bit (bitXor a b) k ≡ bitXor (bit a k) (bit b k)
 bit-xor a b k = ap (λ n. n % 2) (xor-shr a b k) ∙ xor-mod (a / 2 ^ k) (b / 2 ^ k) 1
 
 -- a power of two has one bit
-bit-here : (o : ℕ) → bit (2 ^ o) o ≡ 1
+pub bit-here : (o : ℕ) → bit (2 ^ o) o ≡ 1
 bit-here o = ap (λ n. n % 2) (ap (λ n. n / 2 ^ o) (sym (one-mul (2 ^ o))) ∙ shl-shr 1 o)
 
 bit-high : (o k : ℕ) → o < k → bit (2 ^ o) k ≡ 0
@@ -36,7 +36,7 @@ bit-low : (d k : ℕ) → bit (2 ^ ((d + 1) + k)) k ≡ 0
 bit-low d k =
     ap (λ n. (n / 2 ^ k) % 2) (pow-add 2 (d + 1) k) ∙ ap (λ n. n % 2) (shl-shr (2 ^ (d + 1)) k ∙ pow-add 2 d 1) ∙ mul-mod-left (2 ^ d) 2
 
-bit-other : (o k : ℕ) → (k ≡ o → ⊥) → bit (2 ^ o) k ≡ 0
+pub bit-other : (o k : ℕ) → (k ≡ o → ⊥) → bit (2 ^ o) k ≡ 0
 bit-other o k ne =
     ⊎-elim
     (λ e. absurd (ne e))
