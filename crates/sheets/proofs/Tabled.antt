@@ -4,7 +4,7 @@ use mathlib.Core.Bool.{false}
 use mathlib.Core.List.{List, [], _∷_, map}
 use Prim.Native.Nat.{ℕ, zero, suc, _<_, _≤_}
 use native.Mathlib.Omega.{arith}
-use lib.ListN.{length, take}
+use lib.ListN.{length, take, getD}
 use Rattle.std.specs.shelf.Lists.{All}
 use Rattle.std.proofs.shelf.Lists.{length-map, length-take-le}
 use Rattle.catalogue.specs.declared.make.Make.{Make}
@@ -22,6 +22,12 @@ pub record At (options : List ℕ) (m : Make) (ts : List Sheet) (views : List Vi
   pub shows : shownAt views s ≡ showing sheet
   pub scope : scopeAt ts s ≡ sheet .scope
   pub admits : (l : List ℕ) → admitsAt ts s l ≡ admits sheet l
+
+-- the view at a place shows what is shown there, if the default shows nothing
+pub shown-at : (views : List View) (d : View) → shownBy d ≡ shownAt [] 0 → (s : ℕ) → shownBy (getD views s d) ≡ shownAt views s
+shown-at [] d e s = e
+shown-at (v ∷ vs) d e zero = refl
+shown-at (v ∷ vs) d e (suc s) = shown-at vs d e s
 
 -- as many sheets as the views that show them
 long-as : (ts : List Sheet) (views : List View) (n : ℕ) → map showing ts ≡ shownIn views n → n ≤ length views → length ts ≡ n
