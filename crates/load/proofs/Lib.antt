@@ -4,3 +4,4 @@ pub mod Lowest
 pub mod Rest
 pub mod Bitwise
 pub mod Supporting
+pub mod Showing

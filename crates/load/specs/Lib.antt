@@ -1,3 +1,6 @@
 pub mod Joins
 pub mod Sums
 pub mod Weights
+pub mod Loads
+pub mod Sound
+pub mod Calls
