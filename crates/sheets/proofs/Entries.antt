@@ -3,19 +3,25 @@ use mathlib.Core.Path.{_≡_, refl, sym, ap, subst, _∙_}
 use mathlib.Core.Bool.{true, false}
 use mathlib.Core.Logic.{⊎-elim}
 use mathlib.Core.List.{List, [], _∷_, _++_, append-assoc, append-nil}
-use Prim.Native.Nat.{ℕ, zero, suc, _+_, _*_, _<_, _≤_}
+use Prim.Native.Nat.{ℕ, zero, suc, _+_, _*_, _/_, _%_, _<_, _≤_}
+use native.Mathlib.Nat.{zero-add}
 use native.Mathlib.Omega.{arith}
+use lib.IntN.{ℤ, pos, negsuc}
 use lib.ListN.{length, getD, take, drop}
+use lib.Signed.{_≤ℤ_}
+use mir.Val.{ofZ, toZ, SFits}
+use mir.Syntax.{w16}
 use Rattle.std.specs.Joined.{joined}
 use Rattle.std.specs.shelf.Lists.{All}
 use Rattle.std.proofs.shelf.Elements.{all-getD, all-weaker}
-use Rattle.std.proofs.shelf.Lists.{length-append, take-at, drop-at, drop-drop, getD-past}
+use Rattle.std.proofs.shelf.Lists.{length-append, take-at, drop-at, drop-drop, getD-past, getD-append-left, getD-append-add}
+use Rattle.std.proofs.shelf.Signed.{ints, toZ-ofZ}
 use Rattle.std.proofs.shelf.Tests.{cases-lt, false≢true}
 use Rattle.catalogue.specs.declared.make.Make.{Make}
 use Rattle.catalogue.specs.declared.make.Make.the-variants.{Fit, Bar, Load}
-use Rattle.catalogue.specs.Content.{Sheet, GoodRow, GoodSheet, Lacks}
+use Rattle.catalogue.specs.Content.{Weight, Sheet, GoodRow, GoodWeight, GoodSheet, Lacks}
 use Rattle.catalogue.specs.Writing.{padded, rowBytes, weightBytes, entryBytes}
-use Rattle.catalogue.specs.Checks.{isLoad}
+use Rattle.catalogue.specs.Checks.{isLoad, signedTwo}
 use Rattle.catalogue.proofs.Passing.{length-padded, length-row}
 use Rattle.sheets.specs.Tables.{rowAt}
 
@@ -64,7 +70,7 @@ known-option options (s ∷ ss) (x ∷ xs) g zero h = g .0
 known-option options (s ∷ ss) (x ∷ xs) g (suc p) h = known-option options ss xs (g .1) p (omega arith)
 
 -- no slot has more than 32 options
-few-options : (options : List ℕ) → All (λ k. k ≤ 32) options → (s : ℕ) → getD options s 0 ≤ 32
+pub few-options : (options : List ℕ) → All (λ k. k ≤ 32) options → (s : ℕ) → getD options s 0 ≤ 32
 few-options options a s =
     ⊎-elim (λ l. all-getD (λ k. k ≤ 32) options s 0 l a) (λ h. omega (arith, getD-past options s 0 h)) (cases-lt s (length options))
 
@@ -98,3 +104,59 @@ module _ (options : List ℕ) (t : Sheet) (g : GoodSheet options t) where
 
   pub row-at : (r : ℕ) → r < length (t .rows) → rowAt (entryBytes t) (length (t .scope)) r ≡ getD (t .rows) r []
   row-at r h = row-among (length (t .scope)) (g .few) (t .rows) (joined weightBytes (t .weights)) rows-long r h
+
+-- weights, one behind another: each is five bytes
+weights-long : (ws : List Weight) → length (joined weightBytes ws) ≡ 5 * length ws
+weights-long [] = refl
+weights-long (w ∷ ws) = length-append (weightBytes w) (joined weightBytes ws) ∙ omega (arith, weights-long ws)
+
+weight-among : (ws : List Weight) (d : Weight) (i j : ℕ) → i < length ws → j < 5 → getD (joined weightBytes ws) (5 * i + j) 0 ≡ getD (weightBytes (getD ws i d)) j 0
+weight-among [] d i j h l = absurd (omega arith)
+weight-among (w ∷ ws) d zero j h l = rw zero-add (getD-append-left (weightBytes w) (joined weightBytes ws) 0 j l)
+weight-among (w ∷ ws) d (suc i) j h l =
+    let place : 5 * suc i + j ≡ 5 + (5 * i + j) = omega arith in
+    ap (λ n. getD (joined weightBytes (w ∷ ws)) n 0) place ∙ getD-append-add (weightBytes w) (joined weightBytes ws) (5 * i + j) 0 ∙ weight-among ws d i j (omega arith) l
+
+-- Weight i of a load sheet, w, lies at 5 * i of its entries.
+pub record WeightAt (options : List ℕ) (t : Sheet) (i : ℕ) (w : Weight) : Type 0 where
+  pub position : getD (entryBytes t) (5 * i + 1) 0 ≡ w .position
+  pub option : getD (entryBytes t) (5 * i + 2) 0 ≡ w .option
+  pub low-byte : getD (entryBytes t) (5 * i + 3) 0 ≡ ofZ w16 (w .amount) % 256
+  pub high-byte : getD (entryBytes t) (5 * i + 4) 0 ≡ ofZ w16 (w .amount) / 256
+  pub amount : signedTwo (getD (entryBytes t) (5 * i + 3) 0 ∷ getD (entryBytes t) (5 * i + 4) 0 ∷ []) ≡ w .amount
+  pub fits : SFits w16 (w .amount)
+  pub good : GoodWeight options (t .scope) w
+
+small-fits : (z : ℤ) → negsuc 29999 ≤ℤ z → z ≤ℤ pos 30000 → SFits w16 z
+small-fits (pos n) low high = record { sfits = omega (arith, ints) }
+small-fits (negsuc n) low high = record { sfits = omega (arith, ints) }
+
+module _ (options : List ℕ) (t : Sheet) (g : GoodSheet options t) (none : t .rows ≡ []) where
+  -- the entries of a sheet with no rows are its weights
+  entries-are : entryBytes t ≡ joined weightBytes (t .weights)
+  entries-are = ap (λ l. joined rowBytes l ++ joined weightBytes (t .weights)) none
+
+  pub entries-weights : length (entryBytes t) ≡ 5 * length (t .weights)
+  entries-weights = ap length entries-are ∙ weights-long (t .weights)
+
+  pub weight-at : (d : Weight) (i : ℕ) → i < length (t .weights) → WeightAt options t i (getD (t .weights) i d)
+  weight-at d i h =
+      let w = getD (t .weights) i d in
+      let good = all-getD (GoodWeight options (t .scope)) (t .weights) i d h (g .weights) in
+      let n = ofZ w16 (w .amount) in
+      let low : getD (entryBytes t) (5 * i + 3) 0 ≡ n % 256 = byte d i 3 h (omega arith) in
+      let high : getD (entryBytes t) (5 * i + 4) 0 ≡ n / 256 = byte d i 4 h (omega arith) in
+      let is : getD (entryBytes t) (5 * i + 3) 0 + getD (entryBytes t) (5 * i + 4) 0 * 256 ≡ n = omega arith in
+      let fits = small-fits (w .amount) (good .low) (good .high) in
+      record {
+        position = byte d i 1 h (omega arith);
+        option = byte d i 2 h (omega arith);
+        low-byte = low;
+        high-byte = high;
+        amount = ap (toZ w16) is ∙ toZ-ofZ w16 (w .amount) fits;
+        fits = fits;
+        good = good;
+      }
+    where
+      byte : (d : Weight) (i j : ℕ) → i < length (t .weights) → j < 5 → getD (entryBytes t) (5 * i + j) 0 ≡ getD (weightBytes (getD (t .weights) i d)) j 0
+      byte d i j h l = ap (λ b. getD b (5 * i + j) 0) entries-are ∙ weight-among (t .weights) d i j h l
