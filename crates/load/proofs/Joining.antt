@@ -13,9 +13,9 @@ picked-tail P n x l k = record { long = omega (arith, k .long); each = λ p h. k
 picked-cons : (P : ℕ → ℕ → Type 0) (n x : ℕ) (l : List ℕ) → P 0 x → Picked (λ p. P (suc p)) n l → Picked P (suc n) (x ∷ l)
 picked-cons P n x l here k = record { long = omega (arith, k .long); each = go }
   where
-  go : (p : ℕ) → p < suc n → P p (getD (x ∷ l) p 0)
-  go zero h = here
-  go (suc p) h = k .each p (omega arith)
+    go : (p : ℕ) → p < suc n → P p (getD (x ∷ l) p 0)
+    go zero h = here
+    go (suc p) h = k .each p (omega arith)
 
 module _ {W : Type 0} (J : Joining W) where
   -- the least weight at each position

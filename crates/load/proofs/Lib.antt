@@ -5,3 +5,6 @@ pub mod Rest
 pub mod Bitwise
 pub mod Supporting
 pub mod Showing
+pub mod Weighing
+pub mod Entering
+pub mod Freshly

@@ -86,8 +86,8 @@ module _ (views : List View) (n : ℕ) (tables : List (List ℤ)) (marks s : ℕ
   shown k h =
       let whole = subst (Narrowed b c (shownAt views s .scope) masks) (all-positions (k .long)) h in
       let done = box-shown
-          (subst (λ (x : List ℕ). Supports (getD tables s []) (shownAt views s .«cap») x b masks) (sym same) k)
-          (subst (λ (x : List ℕ). Narrowed b c x masks (length x)) (sym same) whole) in
+      (subst (λ (x : List ℕ). Supports (getD tables s []) (shownAt views s .«cap») x b masks) (sym same) k)
+      (subst (λ (x : List ℕ). Narrowed b c x masks (length x)) (sym same) whole) in
       record {
         supported = done .supported;
         spared = done .spared;

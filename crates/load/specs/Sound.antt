@@ -11,17 +11,17 @@ use lib.Dec.{T, ltb, eqb}
 use lib.IntN.{ℤ}
 use lib.ListN.{length, getD}
 use lib.Signed.{leZ}
-use Rattle.std.proofs.shelf.Elements.{all-getD}
 use Rattle.std.proofs.shelf.Tests.{lt-ltb, and-parts, eqb-true, ltb-true, cond-true}
 use Rattle.catalogue.specs.declared.make.Make.{Make}
 use Rattle.catalogue.specs.declared.view.View.{View}
-use Rattle.catalogue.specs.Content.{Apart, GoodSheet}
+use Rattle.catalogue.specs.Content.{GoodSheet}
 use Rattle.catalogue.specs.Checks.{all}
 use Rattle.catalogue.specs.Views.{Shown, showing}
 use Rattle.binder.specs.Meaning.{Binding, Listed, Proper}
 use Rattle.sheets.specs.Tables.{Taken, shownAt}
 use Rattle.sheets.specs.Rules.{isList}
 use Rattle.sheets.proofs.Tabled.{At, at}
+use Rattle.sheets.proofs.Scopes.{scope-low, scope-apart}
 use Rattle.load.specs.Joins.{weigh}
 use Rattle.load.specs.Sums.{sums}
 use Rattle.load.specs.Weights.{weighs}
@@ -34,27 +34,18 @@ pub record Scoped (scope : List ℕ) : Type 0 where
   pub slots : (p : ℕ) → p < length scope → getD scope p 0 < 48
   pub apart : (p q : ℕ) → p < q → q < length scope → getD scope p 0 ≡ getD scope q 0 → ⊥
 
--- what stands at two places of a list without doubles
-apart-at : (xs : List ℕ) → Apart xs → (i j : ℕ) → i < j → j < length xs → getD xs i 0 ≡ getD xs j 0 → ⊥
-apart-at [] a i j l h e = absurd (omega arith)
-apart-at (x ∷ xs) a zero zero l h e = absurd (omega arith)
-apart-at (x ∷ xs) a (suc i) zero l h e = absurd (omega arith)
-apart-at (x ∷ xs) a zero (suc j) l h e = all-getD (λ y. x ≡ y → ⊥) xs j 0 (omega arith) (a .0) e
-apart-at (x ∷ xs) a (suc i) (suc j) l h e = apart-at xs (a .1) i j (omega arith) (omega arith) e
-
 scoped-taken : (m : Make) (views : List View) (n : ℕ) (t : Taken m views n) (s : ℕ) → s < n → n ≤ length views → Scoped (shownAt views s .scope)
 scoped-taken m views n t s l h =
     let a = at m views n t s l h in
     let g = a .good in
-    let low = t .slots in
     subst
     (λ (v : Shown). Scoped (v .scope))
     (sym (a .shows))
     (record {
       some = g .some;
       short = g .few;
-      slots = λ p k. omega (arith, all-getD (λ i. i < length (t .options)) (a .sheet .scope) p 0 k (g .known));
-      apart = apart-at (a .sheet .scope) (g .apart);
+      slots = scope-low (t .options) (a .sheet) g (t .slots);
+      apart = scope-apart (t .options) (a .sheet) g;
     })
 
 -- the views are of some sound catalogue, though it is not said of which

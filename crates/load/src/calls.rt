@@ -1,18 +1,39 @@
 // Load sheets as a binder: its questions, showings and marks.
 ghost use Prim.Native.Nat.{_<_};
+ghost use Rattle.catalogue.specs.declared.make.Make.the-variants.{Load as LoadMake};
+ghost use Rattle.catalogue.specs.Verdict.{content};
+ghost use Rattle.sheets.specs.Rules.{Fresh};
+ghost use Rattle.sheets.specs.Tables.{sheetsIn};
 ghost use Rattle.load.specs.Weights.{Supports};
 ghost use Rattle.load.specs.Calls.{shownOf, tableOf, meaningOf, properOf};
 use crate::Load;
 use crate::masks::supported;
+use crate::weights::tables_of;
 use binder::binders::Binder;
 use binder::refusal::Refusal;
 use boxes::OptionBox;
+use catalogue::checked::Catalogue;
+use catalogue::make::Make;
 use sheets::closing::keep_only;
+use sheets::taking::sheets_of;
 
 // As many marks can stand.
 const MARKS: usize = 72;
 
 impl<'a> Load<'a> {
+    // The load sheets of a checked catalogue, with no mark.
+    pub fn new(catalogue: &Catalogue<'a>) -> Load<'a>
+        ensures { λ r. ⌜ Fresh (sheetsIn (content (now (now (catalogue .entry) .bytes))) LoadMake) (meaningOf r) ⌝ }
+    {
+        let sheets = sheets_of(catalogue, Make::Load);
+        let weights = tables_of(&sheets);
+        Load {
+            sheets,
+            weights,
+            marks: 0,
+        }
+    }
+
     // The supported options of a sheet.
     fn support(&self, sheet: usize, slate: &OptionBox) -> [u32; 8]
         requires { ⌜ sheet < now self .sheets .count ⌝ }

@@ -20,13 +20,7 @@ fn lesser(best: Option<i32>, weight: i32) -> i32
     ensures { λ r. ⌜ Lesser best weight r ⌝ }
 {
     match best {
-        Some(least) => {
-            if least <= weight {
-                least
-            } else {
-                weight
-            }
-        }
+        Some(least) => { if least <= weight { least } else { weight } }
         None => weight,
     }
 }

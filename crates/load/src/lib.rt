@@ -5,6 +5,7 @@ use sheets::table::Sheets;
 mod calls;
 mod leasts;
 mod masks;
+mod weights;
 
 // The sheets, what their options weigh, and how many marks stand.
 //

@@ -6,9 +6,9 @@ ghost use lib.IntN.{pos, _+ℤ_};
 ghost use lib.Signed.{_≤ℤ_};
 ghost use Rattle.std.specs.Orderings.{Decides};
 ghost use Rattle.load.specs.Weights.{Small, Fair, restOf, Allowed, Masked, MaskedAt, Supports};
-use boxes::OptionBox;
 use crate::leasts::leasts_of;
 use crate::leasts::weight_at;
+use boxes::OptionBox;
 
 // The total of the first `arity` weights without that at a position.
 fn rest_of(leasts: &[i32; 8], arity: usize, position: usize) -> i32
@@ -34,7 +34,14 @@ fn affords(weight: i32, rest: i32, cap: i32) -> bool
 }
 
 // The open options of a slot that total at most the cap with the rest.
-fn mask_at(table: &[i16; 256], rest: i32, cap: i32, position: usize, slot: usize, slate: &OptionBox) -> u32
+fn mask_at(
+    table: &[i16; 256],
+    rest: i32,
+    cap: i32,
+    position: usize,
+    slot: usize,
+    slate: &OptionBox,
+) -> u32
     requires { ⌜ position < 8 ⌝ ∗ ⌜ Fair rest ⌝ }
     ensures { λ r. ⌜ Masked (Allowed (now (table .entry)) rest «cap» (now (slate .entry) .cells) slot position) r 32 ⌝ }
 {
@@ -51,7 +58,13 @@ fn mask_at(table: &[i16; 256], rest: i32, cap: i32, position: usize, slot: usize
 }
 
 // The same at each position of a scope, with the least of the others as the rest.
-fn masks_of(table: &[i16; 256], leasts: &[i32; 8], cap: i32, scope: &[u8], slate: &OptionBox) -> [u32; 8]
+fn masks_of(
+    table: &[i16; 256],
+    leasts: &[i32; 8],
+    cap: i32,
+    scope: &[u8],
+    slate: &OptionBox,
+) -> [u32; 8]
     requires { ⌜ length (now scope) ≤ 8 ⌝ ∗ ⌜ ((p : ℕ) → p < length (now scope) → Small (getD (now leasts) p (pos 0))) ⌝ }
     ensures long { λ r. ⌜ length r ≡ 8 ⌝ }
     ensures masked { λ r. ⌜ MaskedAt (now (slate .entry) .cells) (now (scope .entry)) (now (table .entry)) (now (leasts .entry)) «cap» (length (now (scope .entry))) r ⌝ }

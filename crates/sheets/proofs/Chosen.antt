@@ -152,6 +152,11 @@ module _ (bs : List ℕ) (c : Counts) (a : accepts bs c ≡ true) (o : Octets bs
         is = ap (map showing) (sym (sheets-are h)) ∙ sym e;
       }
 
+  -- and just the catalogue's
+  pub taken-sheets : (views : List View) (n : ℕ) (e : shownIn views n ≡ map showing (sheetsIn (content bs) m)) → taken-of views n e .sheets ≡ sheetsIn (content bs) m
+  unfolding taken-of
+  taken-sheets views n e = sym (sheets-are (held bs c a o))
+
   -- one sheet more is taken, since there is one
   pub filled-more : (views next : List View) (i n : ℕ) (v : View) → Filled (content bs) m views i n → i < n → n ≡ countSaid (content bs) m → seen (Some v) ≡ sheetSaid (content bs) m i → next ≡ set views i v → Filled (content bs) m next (i + 1) n
   filled-more views next i n v f l count e is =

@@ -24,14 +24,16 @@ loop-option-again c =
     let is = back (c .weight-at .result) (c .weight-at .ok) ∙ c .weight-at .ensures .is in
     let isOpen = c .is-open .ensures .0 (c .if-not-is-open .left) in
     let P = Allowed (c .args .table .now) rest limit (c .args .slate .now .cells) (c .args .slot) (c .args .position) in
-    elim (c .if-affords .came) [ then-affords w ↦ subst
-    (λ (m : ℕ). Masked P m (option + 1))
-    (sym (w .mask-is))
-    (masked-take P (c .loop-option .mask) option (omega arith) (record { isOpen = isOpen; fits = moved given weight rest limit is (c .affords .ensures .0 (w .if-affords .taken)) }) (c .loop-option .inv))
-    | else-affords w ↦ subst
-    (λ (m : ℕ). Masked P m (option + 1))
-    (sym (w .mask-is))
-    (masked-skip P (c .loop-option .mask) option (λ k. both-ways (c .affords .result) (w .if-affords .left) (c .affords .ensures .1 (moved weight given rest limit (sym is) (k .fits)))) (c .loop-option .inv)) ]
+    elim (c .if-affords .came) [
+      | then-affords w ↦ subst
+          (λ (m : ℕ). Masked P m (option + 1))
+          (sym (w .mask-is))
+          (masked-take P (c .loop-option .mask) option (omega arith) (record { isOpen = isOpen; fits = moved given weight rest limit is (c .affords .ensures .0 (w .if-affords .taken)) }) (c .loop-option .inv))
+      | else-affords w ↦ subst
+          (λ (m : ℕ). Masked P m (option + 1))
+          (sym (w .mask-is))
+          (masked-skip P (c .loop-option .mask) option (λ k. both-ways (c .affords .result) (w .if-affords .left) (c .affords .ensures .1 (moved weight given rest limit (sym is) (k .fits)))) (c .loop-option .inv))
+    ]
 
 pub returns : need.returns
 returns c =

@@ -12,8 +12,10 @@ add-sum c =
 
 pub loop-place-again : need.loop-place-again
 loop-place-again c =
-    elim (c .if-place-position .came) [ then-place-position w ↦ summed-more (c .args .leasts .now) (c .args .arity) (c .args .position) (c .loop-place .place) _ (c .told-leasts) (c .pre .0) (c .loop-place-test .taken) (c .loop-place .inv) (w .if-place-position .taken) (c .pre .1 (c .loop-place .place) (c .loop-place-test .taken)) _ (w .sum-is)
-    | else-place-position w ↦ summed-same (c .args .leasts .now) (c .args .arity) (c .args .position) (c .loop-place .place) _ (c .told-leasts) (c .pre .0) (c .loop-place-test .taken) (c .loop-place .inv) (w .if-place-position .left) _ (w .sum-is) ]
+    elim (c .if-place-position .came) [
+      | then-place-position w ↦ summed-more (c .args .leasts .now) (c .args .arity) (c .args .position) (c .loop-place .place) _ (c .told-leasts) (c .pre .0) (c .loop-place-test .taken) (c .loop-place .inv) (w .if-place-position .taken) (c .pre .1 (c .loop-place .place) (c .loop-place-test .taken)) _ (w .sum-is)
+      | else-place-position w ↦ summed-same (c .args .leasts .now) (c .args .arity) (c .args .position) (c .loop-place .place) _ (c .told-leasts) (c .pre .0) (c .loop-place-test .taken) (c .loop-place .inv) (w .if-place-position .left) _ (w .sum-is)
+    ]
 
 pub returns : need.returns
 returns c =
