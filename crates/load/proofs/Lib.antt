@@ -1,0 +1,10 @@
+pub mod Joining
+pub mod Signs
+pub mod Lowest
+pub mod Rest
+pub mod Bitwise
+pub mod Supporting
+pub mod Showing
+pub mod Weighing
+pub mod Entering
+pub mod Freshly

@@ -1,0 +1,58 @@
+// The least weight among the open options of each slot of a scope.
+ghost use mathlib.Core.Path.{_≡_};
+ghost use Prim.Native.Nat.{ℕ, _<_, _≤_};
+ghost use lib.ListN.{length, getD};
+ghost use Rattle.boxes.specs.Boxes.{Open};
+ghost use Rattle.load.specs.Weights.{weighs, Small, Lesser, LowestOf, Leasts};
+use boxes::OptionBox;
+
+// What an option weighs at a position.
+pub fn weight_at(table: &[i16; 256], position: usize, option: u8) -> i32
+    requires { ⌜ position < 8 ⌝ ∗ ⌜ option < 32 ⌝ }
+    ensures is { λ r. ⌜ r ≡ weighs (now (table .entry)) position option ⌝ }
+    ensures small { λ r. ⌜ Small r ⌝ }
+{
+    table[position * 32 + option as usize] as i32
+}
+
+// The lesser of the two, where there are two.
+fn lesser(best: Option<i32>, weight: i32) -> i32
+    ensures { λ r. ⌜ Lesser best weight r ⌝ }
+{
+    match best {
+        Some(least) => { if least <= weight { least } else { weight } }
+        None => weight,
+    }
+}
+
+// The least weight of the options that are open at a slot, if any is.
+fn least_at(table: &[i16; 256], position: usize, slot: usize, slate: &OptionBox) -> Option<i32>
+    requires { ⌜ position < 8 ⌝ }
+    ensures { λ r. ⌜ LowestOf (Open (now (slate .entry) .cells) slot) (weighs (now (table .entry)) position) r ⌝ }
+{
+    let mut best = None;
+    for option in 0..32 {
+        if !slate.is_open(slot, option) {
+            continue;
+        }
+        let weight = weight_at(table, position, option);
+        let least = lesser(best, weight);
+        best = Some(least);
+    }
+    best
+}
+
+// The least weight at each slot of a scope, unless a slot has no option open.
+pub fn leasts_of(table: &[i16; 256], scope: &[u8], slate: &OptionBox) -> Option<[i32; 8]>
+    requires { ⌜ length (now scope) ≤ 8 ⌝ }
+    ensures { λ r. ⌜ Leasts (now (slate .entry) .cells) (now (scope .entry)) (now (table .entry)) r ⌝ }
+{
+    let mut leasts = [0; 8];
+    for position in 0..scope.len() {
+        let Some(least) = least_at(table, position, scope[position] as usize, slate) else {
+            return None;
+        };
+        leasts[position] = least;
+    }
+    Some(leasts)
+}
