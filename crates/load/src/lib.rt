@@ -2,7 +2,7 @@
 ghost use Prim.Native.Nat.{_≤_};
 use sheets::table::Sheets;
 
-mod calls;
+pub mod calls;
 mod leasts;
 mod masks;
 mod weights;

@@ -15,6 +15,10 @@ use catalogue::wording::LayerDisplay;
 use checker::check;
 use compare::Tally;
 use compare::every_box;
+use fit::Fit;
+use fit::calls::FitBinder;
+use load::Load;
+use load::calls::LoadBinder;
 use std::error::AnyError;
 use std::io;
 
@@ -30,18 +34,34 @@ fn tell(rt: &LibcRuntime, what: &str, tally: Tally) -> io::Result<()> {
 
 // Each make by itself.
 fn alone(rt: &LibcRuntime, catalogue: &Catalogue) -> io::Result<()> {
+    let mut fits = Fit::new(catalogue);
+    tell(rt, "fit", every_box(&mut fits, 0, catalogue, Make::Fit))?;
     let mut bars = Bar::new(catalogue);
-    tell(rt, "bar", every_box(&mut bars, 0, catalogue, Make::Bar))
+    tell(rt, "bar", every_box(&mut bars, 0, catalogue, Make::Bar))?;
+    let mut loads = Load::new(catalogue);
+    tell(rt, "load", every_box(&mut loads, 0, catalogue, Make::Load))
 }
 
 // All three side by side: the sheets of the first come first.
 fn together(rt: &LibcRuntime, catalogue: &Catalogue) -> io::Result<()> {
-    let mut all = Join::new(Bar::new(catalogue), Bar::new(catalogue));
-    let bars = catalogue.sheet_count(Make::Bar);
+    let tables = Join::new(Fit::new(catalogue), Bar::new(catalogue));
+    let mut all = Join::new(tables, Load::new(catalogue));
+    let bars = catalogue.sheet_count(Make::Fit);
+    let loads = bars.wrapping_add(catalogue.sheet_count(Make::Bar));
     tell(
         rt,
-        "bar in a join",
+        "fit, joined",
+        every_box(&mut all, 0, catalogue, Make::Fit),
+    )?;
+    tell(
+        rt,
+        "bar, joined",
         every_box(&mut all, bars, catalogue, Make::Bar),
+    )?;
+    tell(
+        rt,
+        "load, joined",
+        every_box(&mut all, loads, catalogue, Make::Load),
     )
 }
 
