@@ -20,7 +20,8 @@ fn row_fits(entries: &[u8], scope: &[u8], row: usize, slate: &OptionBox) -> bool
     true
 }
 
-// Drops the rows that do not fit from the `count` places from `start` on, and says how many are left.
+// Drops the rows that do not fit from the `count` places from `start` on, and says how many are left. A row
+// that is swapped in is looked at in its turn.
 pub(crate) fn sift(
     order: &mut [u16; 4096],
     start: usize,
