@@ -2,9 +2,10 @@
 ghost use Prim.Native.Nat.{_≤_};
 use sheets::table::Sheets;
 
-mod calls;
+pub mod calls;
 mod leasts;
 mod masks;
+mod options;
 mod weights;
 
 // The sheets, what their options weigh, and how many marks stand.
