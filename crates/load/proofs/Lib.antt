@@ -3,6 +3,7 @@ pub mod Signs
 pub mod Lowest
 pub mod Rest
 pub mod Bitwise
+pub mod Masking
 pub mod Supporting
 pub mod Showing
 pub mod Weighing

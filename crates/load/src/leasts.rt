@@ -2,8 +2,8 @@
 ghost use mathlib.Core.Path.{_≡_};
 ghost use Prim.Native.Nat.{ℕ, _<_, _≤_};
 ghost use lib.ListN.{length, getD};
-ghost use Rattle.boxes.specs.Boxes.{Open};
-ghost use Rattle.load.specs.Weights.{weighs, Small, Lesser, LowestOf, Leasts};
+ghost use Rattle.load.specs.Weights.{weighs, Small, Lesser, OpenIn, LowestOf, Leasts};
+use crate::options::highest;
 use boxes::OptionBox;
 
 // What an option weighs at a position.
@@ -25,31 +25,33 @@ fn lesser(best: Option<i32>, weight: i32) -> i32
     }
 }
 
-// The least weight of the options that are open at a slot, if any is.
-fn least_at(table: &[i16; 256], position: usize, slot: usize, slate: &OptionBox) -> Option<i32>
+// The least weight of the open options of a cell, if any is open.
+fn least_at(table: &[i16; 256], position: usize, cell: u32) -> Option<i32>
     requires { ⌜ position < 8 ⌝ }
-    ensures { λ r. ⌜ LowestOf (Open (now (slate .entry) .cells) slot) (weighs (now (table .entry)) position) r ⌝ }
+    ensures { λ r. ⌜ LowestOf (OpenIn cell) (weighs (now (table .entry)) position) r ⌝ }
 {
     let mut best = None;
-    for option in 0..32 {
-        if !slate.is_open(slot, option) {
-            continue;
-        }
+    let mut left = cell;
+    'options: while left != 0 {
+        let option = highest(left);
         let weight = weight_at(table, position, option);
         let least = lesser(best, weight);
         best = Some(least);
+        left -= 1 << option;
     }
     best
 }
 
 // The least weight at each slot of a scope, unless a slot has no option open.
 pub fn leasts_of(table: &[i16; 256], scope: &[u8], slate: &OptionBox) -> Option<[i32; 8]>
-    requires { ⌜ length (now scope) ≤ 8 ⌝ }
+    requires short { ⌜ length (now scope) ≤ 8 ⌝ }
+    requires slots { ⌜ ((p : ℕ) → p < length (now scope) → getD (now scope) p 0 < 48) ⌝ }
     ensures { λ r. ⌜ Leasts (now (slate .entry) .cells) (now (scope .entry)) (now (table .entry)) r ⌝ }
 {
     let mut leasts = [0; 8];
     for position in 0..scope.len() {
-        let Some(least) = least_at(table, position, scope[position] as usize, slate) else {
+        let cell = slate.cells[scope[position] as usize];
+        let Some(least) = least_at(table, position, cell) else {
             return None;
         };
         leasts[position] = least;

@@ -5,6 +5,7 @@ use sheets::table::Sheets;
 pub mod calls;
 mod leasts;
 mod masks;
+mod options;
 mod weights;
 
 // The sheets, what their options weigh, and how many marks stand.

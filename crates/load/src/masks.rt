@@ -8,6 +8,7 @@ ghost use Rattle.std.specs.Orderings.{Decides};
 ghost use Rattle.load.specs.Weights.{Small, Fair, restOf, Allowed, Masked, MaskedAt, Supports};
 use crate::leasts::leasts_of;
 use crate::leasts::weight_at;
+use crate::options::highest;
 use boxes::OptionBox;
 
 // The total of the first `arity` weights without that at a position.
@@ -33,26 +34,19 @@ fn affords(weight: i32, rest: i32, cap: i32) -> bool
     weight + rest <= cap
 }
 
-// The open options of a slot that total at most the cap with the rest.
-fn mask_at(
-    table: &[i16; 256],
-    rest: i32,
-    cap: i32,
-    position: usize,
-    slot: usize,
-    slate: &OptionBox,
-) -> u32
+// The open options of a cell that total at most the cap with the rest.
+fn mask_at(table: &[i16; 256], rest: i32, cap: i32, position: usize, cell: u32) -> u32
     requires { ⌜ position < 8 ⌝ ∗ ⌜ Fair rest ⌝ }
-    ensures { λ r. ⌜ Masked (Allowed (now (table .entry)) rest «cap» (now (slate .entry) .cells) slot position) r 32 ⌝ }
+    ensures { λ r. ⌜ Masked (Allowed (now (table .entry)) rest «cap» cell position) r ⌝ }
 {
     let mut mask = 0;
-    for option in 0..32 {
-        if !slate.is_open(slot, option) {
-            continue;
-        }
+    let mut left = cell;
+    'options: while left != 0 {
+        let option = highest(left);
         if affords(weight_at(table, position, option), rest, cap) {
             mask |= 1 << option;
         }
+        left -= 1 << option;
     }
     mask
 }
@@ -65,21 +59,25 @@ fn masks_of(
     scope: &[u8],
     slate: &OptionBox,
 ) -> [u32; 8]
-    requires { ⌜ length (now scope) ≤ 8 ⌝ ∗ ⌜ ((p : ℕ) → p < length (now scope) → Small (getD (now leasts) p (pos 0))) ⌝ }
+    requires short { ⌜ length (now scope) ≤ 8 ⌝ }
+    requires slots { ⌜ ((p : ℕ) → p < length (now scope) → getD (now scope) p 0 < 48) ⌝ }
+    requires small { ⌜ ((p : ℕ) → p < length (now scope) → Small (getD (now leasts) p (pos 0))) ⌝ }
     ensures long { λ r. ⌜ length r ≡ 8 ⌝ }
     ensures masked { λ r. ⌜ MaskedAt (now (slate .entry) .cells) (now (scope .entry)) (now (table .entry)) (now (leasts .entry)) «cap» (length (now (scope .entry))) r ⌝ }
 {
     let mut masks = [0; 8];
     for position in 0..scope.len() {
         let rest = rest_of(leasts, scope.len(), position);
-        masks[position] = mask_at(table, rest, cap, position, scope[position] as usize, slate);
+        let cell = slate.cells[scope[position] as usize];
+        masks[position] = mask_at(table, rest, cap, position, cell);
     }
     masks
 }
 
 // The supported options of a sheet: none where a slot has no option open.
 pub fn supported(table: &[i16; 256], cap: i32, scope: &[u8], slate: &OptionBox) -> [u32; 8]
-    requires { ⌜ length (now scope) ≤ 8 ⌝ }
+    requires short { ⌜ length (now scope) ≤ 8 ⌝ }
+    requires slots { ⌜ ((p : ℕ) → p < length (now scope) → getD (now scope) p 0 < 48) ⌝ }
     ensures { λ r. ⌜ Supports (now (table .entry)) «cap» (now (scope .entry)) (now (slate .entry) .cells) r ⌝ }
 {
     match leasts_of(table, scope, slate) {

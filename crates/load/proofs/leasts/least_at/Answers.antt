@@ -1,25 +1,28 @@
 use mathlib.Core.Path.{sym, subst, _∙_}
-use Prim.Native.Nat.{_+_}
-use native.Mathlib.Omega.{arith}
 use lib.IntN.{ℤ}
-use Rattle.load.specs.Weights.{Small, Lesser, Lowest, Below, weighs}
+use native.Mathlib.Omega.{arith}
+use Rattle.std.specs.declared.option.Option.the-variants.{Some}
+use Rattle.load.specs.Weights.{Small, Lesser, weighs}
 use Rattle.load.proofs.Signs.{back}
-use Rattle.load.proofs.Lowest.{lowest-take, lowest-all}
+use Rattle.load.proofs.Bitwise.{without}
+use Rattle.load.proofs.Lowest.{Least-so-far, least-start, least-next, least-all}
 use Rattle.load.proofs.leasts.least_at.Needs as need
 
-pub loop-option-again : need.loop-option-again
-loop-option-again c =
+pub options-holds : need.options-holds
+options-holds c = least-start (c .args .cell) (weighs (c .args .table .now) (c .args .position))
+
+pub options-again : need.options-again
+options-again c =
     let is = c .weight-at-weight .ensures .is in
     let f = weighs (c .args .table .now) (c .args .position) in
+    let option = c .highest-option .result in
     subst
-    (Lowest (Below (c .args .slate .now .cells) (c .args .slot) (c .loop-option .option + 1)) f)
+    (λ (z : ℤ). Least-so-far (c .args .cell) (without (c .options .left) option) f (Some z))
     (sym (back (c .lesser-least .result) (c .lesser-least .ok)))
-    (lowest-take
-    (c .args .slate .now .cells) (c .args .slot) (c .loop-option .option) f (c .loop-option .best) (c .lesser-least .result)
-    (c .is-open .ensures .0 (c .if-not-is-open .left))
+    (least-next (c .args .cell) f (c .options .left) option (c .highest-option .ensures) (c .options .best) (c .lesser-least .result)
     (subst Small is (c .weight-at-weight .ensures .small))
-    (subst (λ (z : ℤ). Lesser (c .loop-option .best) z (c .lesser-least .result)) (back (c .weight-at-weight .result) (c .weight-at-weight .ok) ∙ is) (c .lesser-least .ensures))
-    (c .loop-option .inv))
+    (subst (λ (z : ℤ). Lesser (c .options .best) z (c .lesser-least .result)) (back (c .weight-at-weight .result) (c .weight-at-weight .ok) ∙ is) (c .lesser-least .ensures))
+    (c .options .inv))
 
 pub returns : need.returns
-returns c = lowest-all (c .args .slate .now .cells) (c .args .slot) (c .loop-option .option) (weighs (c .args .table .now) (c .args .position)) (c .loop-option .best) (omega arith) (c .loop-option .inv)
+returns c = least-all (c .args .cell) (weighs (c .args .table .now) (c .args .position)) (c .options .left) (c .options .best) (omega arith) (c .options .inv)

@@ -14,7 +14,7 @@ returns-in-Some c =
     let limit = c .args .«cap» in
     let ms = c .in-Some .leasts in
     let masks = c .masks-of .result in
-    supports table limit scope b ms masks (c .pre) (c .in-Some .ensures tt .0) (c .in-Some .ensures tt .1) (c .masks-of .ensures .long)
+    supports table limit scope b ms masks (c .pre .short) (c .in-Some .ensures tt .0) (c .in-Some .ensures tt .1) (c .masks-of .ensures .long)
     (subst (λ (k : ℤ). MaskedAt b scope table ms k (length scope) masks) (cap-back limit (c .fits .«cap»)) (c .masks-of .ensures .masked))
 
 pub returns-in-None : need.returns-in-None
