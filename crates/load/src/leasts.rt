@@ -7,7 +7,7 @@ use crate::options::highest;
 use boxes::OptionBox;
 
 // What an option weighs at a position.
-pub fn weight_at(table: &[i16; 256], position: usize, option: u8) -> i32
+pub(crate) fn weight_at(table: &[i16; 256], position: usize, option: u8) -> i32
     requires { ⌜ position < 8 ⌝ ∗ ⌜ option < 32 ⌝ }
     ensures is { λ r. ⌜ r ≡ weighs (now (table .entry)) position option ⌝ }
     ensures small { λ r. ⌜ Small r ⌝ }
@@ -43,7 +43,7 @@ fn least_at(table: &[i16; 256], position: usize, cell: u32) -> Option<i32>
 }
 
 // The least weight at each slot of a scope, unless a slot has no option open.
-pub fn leasts_of(table: &[i16; 256], scope: &[u8], slate: &OptionBox) -> Option<[i32; 8]>
+pub(crate) fn leasts_of(table: &[i16; 256], scope: &[u8], slate: &OptionBox) -> Option<[i32; 8]>
     requires short { ⌜ length (now scope) ≤ 8 ⌝ }
     requires slots { ⌜ ((p : ℕ) → p < length (now scope) → getD (now scope) p 0 < 48) ⌝ }
     ensures { λ r. ⌜ Leasts (now (slate .entry) .cells) (now (scope .entry)) (now (table .entry)) r ⌝ }

@@ -75,7 +75,7 @@ fn masks_of(
 }
 
 // The supported options of a sheet: none where a slot has no option open.
-pub fn supported(table: &[i16; 256], cap: i32, scope: &[u8], slate: &OptionBox) -> [u32; 8]
+pub(crate) fn supported(table: &[i16; 256], cap: i32, scope: &[u8], slate: &OptionBox) -> [u32; 8]
     requires short { ⌜ length (now scope) ≤ 8 ⌝ }
     requires slots { ⌜ ((p : ℕ) → p < length (now scope) → getD (now scope) p 0 < 48) ⌝ }
     ensures { λ r. ⌜ Supports (now (table .entry)) «cap» (now (scope .entry)) (now (slate .entry) .cells) r ⌝ }

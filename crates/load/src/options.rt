@@ -3,7 +3,7 @@ ghost use mathlib.Core.Path.{_≡_};
 ghost use Rattle.load.specs.Weights.{Highest};
 
 // The highest of some options.
-pub fn highest(options: u32) -> u8
+pub(crate) fn highest(options: u32) -> u8
     requires { ⌜ (options ≡ 0 → ⊥) ⌝ }
     ensures { λ r. ⌜ Highest options r ⌝ }
 {

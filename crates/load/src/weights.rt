@@ -35,7 +35,7 @@ fn table_of(entries: &[u8]) -> [i16; 256]
 }
 
 // The tables of all sheets.
-pub fn tables_of(sheets: &Sheets) -> [[i16; 256]; 8]
+pub(crate) fn tables_of(sheets: &Sheets) -> [[i16; 256]; 8]
     requires { ⌜ isMake LoadMake (now sheets .make) ≡ true ⌝ }
     ensures { λ r. ⌜ ((s : ℕ) → s < now (sheets .entry) .count → TellsAll (shownAt (now (sheets .entry) .views .items) s .entries) (getD r s [])) ⌝ }
 {
