@@ -1,7 +1,10 @@
 // The bar sheets of a checked catalogue as one binder.
 ghost use mathlib.Core.Path.{_≡_};
 ghost use mathlib.Core.Bool.{true};
-ghost use Prim.Native.Nat.{_≤_};
+ghost use Prim.Native.Nat.{_<_, _≤_};
+ghost use Rattle.std.specs.Results.{Cases};
+ghost use Rattle.binder.specs.declared.refusal.Refusal.the-variants.{NotThere};
+ghost use Rattle.binder.specs.Meaning.{Shown};
 ghost use Rattle.catalogue.specs.declared.make.Make.the-variants.{Bar as BarMake};
 ghost use Rattle.catalogue.specs.Verdict.{content};
 ghost use Rattle.catalogue.specs.Views.{isMake};
@@ -74,7 +77,13 @@ pub impl<'a> Binder for Bar<'a> as BarBinder {
         Ok(view.scope[position] as usize)
     }
 
-    fn show(&mut self, sheet: usize, slate: &mut OptionBox) -> Result<(), Refusal> {
+    // Closes what the lists that are no rows do not hold. The binder itself stays as it is, so each sheet
+    // goes on keeping every list that is not among its rows.
+    fn show(&mut self, sheet: usize, slate: &mut OptionBox) -> Result<(), Refusal>
+        ensures shown { λ r. ⌜ Cases r (λ _. (sheet < (barring (now (self .entry) .sheets .views .items) (now (self .entry) .sheets .count) (now (self .entry) .marks)) .count) × Shown (barring (now (self .entry) .sheets .views .items) (now (self .entry) .sheets .count) (now (self .entry) .marks)) (barring (now (self .exit) .sheets .views .items) (now (self .exit) .sheets .count) (now (self .exit) .marks)) sheet (now (slate .entry) .cells) (now (slate .exit) .cells))
+            (λ e. (e ≡ NotThere) × ((barring (now (self .entry) .sheets .views .items) (now (self .entry) .sheets .count) (now (self .entry) .marks)) .count ≤ sheet) × (now (self .exit) ≡ now (self .entry)) × (now (slate .exit) ≡ now (slate .entry))) ⌝ }
+        ensures stays { λ _. ⌜ now (self .exit) ≡ now (self .entry) ⌝ }
+    {
         if sheet >= self.sheets.count {
             return Err(Refusal::NotThere);
         }

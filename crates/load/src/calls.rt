@@ -1,5 +1,9 @@
 // Load sheets as a binder: its questions, showings and marks.
-ghost use Prim.Native.Nat.{_<_};
+ghost use mathlib.Core.Path.{_≡_};
+ghost use Prim.Native.Nat.{_<_, _≤_};
+ghost use Rattle.std.specs.Results.{Cases};
+ghost use Rattle.binder.specs.declared.refusal.Refusal.the-variants.{NotThere};
+ghost use Rattle.binder.specs.Meaning.{Shown};
 ghost use Rattle.catalogue.specs.declared.make.Make.the-variants.{Load as LoadMake};
 ghost use Rattle.catalogue.specs.Verdict.{content};
 ghost use Rattle.sheets.specs.Rules.{Fresh};
@@ -77,7 +81,13 @@ pub impl<'a> Binder for Load<'a> as LoadBinder {
         Ok(view.scope[position] as usize)
     }
 
-    fn show(&mut self, sheet: usize, slate: &mut OptionBox) -> Result<(), Refusal> {
+    // Closes what no light enough list holds. The binder itself stays as it is, so each sheet goes on keeping
+    // every list whose weights total at most its cap.
+    fn show(&mut self, sheet: usize, slate: &mut OptionBox) -> Result<(), Refusal>
+        ensures shown { λ r. ⌜ Cases r (λ _. (sheet < meaningOf (now (self .entry)) .count) × Shown (meaningOf (now (self .entry))) (meaningOf (now (self .exit))) sheet (now (slate .entry) .cells) (now (slate .exit) .cells))
+            (λ e. (e ≡ NotThere) × (meaningOf (now (self .entry)) .count ≤ sheet) × (now (self .exit) ≡ now (self .entry)) × (now (slate .exit) ≡ now (slate .entry))) ⌝ }
+        ensures stays { λ _. ⌜ now (self .exit) ≡ now (self .entry) ⌝ }
+    {
         if sheet >= self.sheets.count {
             return Err(Refusal::NotThere);
         }

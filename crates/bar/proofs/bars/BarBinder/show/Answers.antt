@@ -1,4 +1,4 @@
-use mathlib.Core.Path.{_≡_, sym, subst}
+use mathlib.Core.Path.{_≡_, refl, sym, subst}
 use Prim.Native.Nat.{_<_}
 use native.Mathlib.Omega.{arith}
 use borrow.Author.Needs.{needs}
@@ -22,4 +22,4 @@ returns c =
     let good : GoodBar (shownBy (c .view-view .result)) = subst GoodBar (sym (c .view-view .ensures))
     (good-at (x .sheets .make) (x .sheets .views .items) (x .sheets .count) (x .bars) (x .sheets .taken) (x .sheets .few) (x .sheets .long) (c .args .sheet) low) in
     let eight : length (c .supports-masks .result) ≡ 8 = search needs in
-    (low, shown (x .sheets .views .items) (x .sheets .count) (x .marks) (c .args .sheet) (shownBy (c .view-view .result)) low (c .view-view .ensures) good _ _ (c .supports-masks .result) eight (c .supports-masks .ensures) (c .keep-only .ensures))
+    record { shown = (low, shown (x .sheets .views .items) (x .sheets .count) (x .marks) (c .args .sheet) (shownBy (c .view-view .result)) low (c .view-view .ensures) good _ _ (c .supports-masks .result) eight (c .supports-masks .ensures) (c .keep-only .ensures)); stays = refl }
