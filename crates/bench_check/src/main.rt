@@ -1,5 +1,7 @@
 // Checks two large files many times over, so that the time of a check can be measured from outside.
 // The first argument says how often, and a second may name one of the files.
+#![tactic(auto)]
+
 use anyhow::anyhow;
 use catalogue::checked::Catalogue;
 use catalogue::counts::Counts;

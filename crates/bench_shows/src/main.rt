@@ -1,5 +1,7 @@
 // Shows the sheets of a catalogue with as much of everything as there can be, again and again: first every
 // box full, then one option less, with a mark before and an undo behind.
+#![tactic(auto)]
+
 use bar::bars::Bar;
 use binder::binders::Binder;
 use boxes::OptionBox;

@@ -1,4 +1,6 @@
 // The box: of each slot, which options are open.
+#![tactic(auto)]
+
 ghost use Rattle.std.specs.Prelude.{◌≡◌, ℕ, ◌<◌, length, replicate, Decides};
 ghost use Rattle.subject.specs.Boxes.{opened};
 ghost use Rattle.boxes.specs.Boxes.{Open, opens, Opened, Closed, Restricted, Fixed, Filled, Some as SomeOpen, Lowest, Two, Loose, Below, SameBox};

@@ -1,4 +1,6 @@
 // A checked catalogue: what the format means, and what an accepted file shows of its slots and sheets.
+#![tactic(auto)]
+
 mod access;
 pub mod checked;
 pub mod counts;

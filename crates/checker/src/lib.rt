@@ -1,5 +1,7 @@
 // Checks a file, in one pass over its records: the record layer reads them, the sheet layer checks their
 // parts, and the catalogue layer what may stand where.
+#![tactic(auto)]
+
 ghost use Rattle.std.specs.Prelude.{◌≡◌, true, IfOk, Ok, Err};
 ghost use Rattle.catalogue.specs.Verdict.{verdict, accepts};
 ghost use Rattle.catalogue.specs.Law.{Means, Octets};

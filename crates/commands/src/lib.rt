@@ -1,4 +1,6 @@
 // The lines that a program reads become calls of a planner.
+#![tactic(auto)]
+
 mod find;
 pub mod lines;
 pub mod parse;

@@ -1,4 +1,6 @@
 // Explores a box for plans, depth first and so in dictionary order, over any binder.
+#![tactic(auto)]
+
 mod lay;
 mod moves;
 pub mod outcome;

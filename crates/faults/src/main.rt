@@ -1,5 +1,7 @@
 // Checks small files, each at the edge of one rule, and prints what the check answers: first the rules
 // one by one, then records that break several, then what a catalogue holds after a check.
+#![tactic(auto)]
+
 mod bases;
 mod case;
 mod chain;

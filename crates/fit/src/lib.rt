@@ -1,4 +1,6 @@
 // The binder of fit sheets: each sheet keeps some of its rows.
+#![tactic(auto)]
+
 ghost use Rattle.fit.specs.Laid.{Laid};
 
 use sheets::table::Sheets;

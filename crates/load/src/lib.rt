@@ -1,4 +1,6 @@
 // The load make: binders of sheets that keep the lists whose weights total at most a cap.
+#![tactic(auto)]
+
 ghost use Rattle.std.specs.Prelude.{◌≤◌};
 
 use sheets::table::Sheets;

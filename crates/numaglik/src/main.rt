@@ -1,5 +1,7 @@
 // The program: reads the file `catalogue` in the current folder and says what it holds or what is wrong with it;
 // then answers one command after another from standard input.
+#![tactic(auto)]
+
 ghost use Rattle.std.specs.Prelude.{◌≡◌, ◌+◌, ◌≤◌, length, IfOk, vec_len};
 
 use binder::binders::Binder;

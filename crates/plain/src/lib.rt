@@ -1,4 +1,6 @@
 // The plain opening: a planner on all sheets of a catalogue.
+#![tactic(auto)]
+
 ghost use Rattle.std.specs.Prelude.{[]};
 ghost use Rattle.planner.specs.States.{After};
 ghost use Rattle.plain.specs.Plain.{problem_in, meaning_of};

@@ -1,3 +1,5 @@
 // Catalogue files made to be checked: records one by one, and whole files at the limits.
+#![tactic(auto)]
+
 pub mod draft;
 pub mod large;

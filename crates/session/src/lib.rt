@@ -1,4 +1,6 @@
 // A planner that is given one line after another, in walks and outside them.
+#![tactic(auto)]
+
 mod inside;
 mod outside;
 pub mod run;

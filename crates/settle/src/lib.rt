@@ -1,4 +1,6 @@
 // Settles a box: shows it to the sheets of a binder until nothing closes.
+#![tactic(auto)]
+
 ghost use Rattle.std.specs.Prelude.{Decides};
 ghost use Rattle.settle.specs.Settled.{Settled, Passed, Alive};
 

@@ -1,4 +1,6 @@
 // Shows every make of binder every box of a small size, and compares with plain enumeration of lists.
+#![tactic(auto)]
+
 mod compare;
 mod files;
 mod reckon;

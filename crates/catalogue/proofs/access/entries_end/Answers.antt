@@ -1,11 +1,11 @@
 use Rattle.std.proofs.Common.{◌+◌, sym, subst, arith}
 use Rattle.catalogue.proofs.Scan.{Onward, onward_start, onward_next, entries_done}
 use Rattle.catalogue.proofs.access.entries_end.Goals as goal
-use Rattle.catalogue.proofs.access.entries_end.Goals.{After-record-len-at}
+use Rattle.catalogue.proofs.access.entries_end.Goals.{After-record_len-at}
 
-stepped : (c : After-record-len-at) → Onward c.args.bytes.now c.args.from (c.loop-at.at + c.record-len-at.result)
+stepped : (c : After-record_len-at) → Onward c.args.bytes.now c.args.from (c.loop-at.at + c.record_len-at.result)
 stepped c =
-    subst (λ n. Onward c.args.bytes.now c.args.from (c.loop-at.at + n)) (sym c.record-len-at.ensures)
+    subst (λ n. Onward c.args.bytes.now c.args.from (c.loop-at.at + n)) (sym c.record_len-at.ensures)
     (onward_next _ _ _ _ c.requires.1 (sym c.loop-at-test.ensures) c.loop-at.invariant)
 
 pub loop-at-init : goal.loop-at-init

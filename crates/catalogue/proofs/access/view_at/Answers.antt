@@ -22,9 +22,9 @@ returns c =
     λ t to l.
     let bs = c.args.bytes.now in
     let at = c.args.at in
-    let fits : SFits w32 c.cap-at.result = search rules in
+    let fits : SFits w32 c.cap_at.result = search rules in
     let size : at + 2 + get_or bs (at + 1) 0 - (at + 2) ≡ get_or bs (at + 1) 0 = omega arith in
     shown_same _ _ _ _ _ _
     (ap (λ n. take n (drop (at + 2) bs)) size ∙ scope_read_lem bs at t to l)
-    (to_z-of_z w32 c.cap-at.result fits ∙ c.cap-at.ensures t to l)
-    (ap (λ n. take (c.sheet-end.result - (at + n)) (drop (at + n) bs)) c.record-len.ensures ∙ ap (λ n. take (n - past bs at) (drop (past bs at) bs)) (c.sheet-end.ensures t to l) ∙ l.shown)
+    (to_z-of_z w32 c.cap_at.result fits ∙ c.cap_at.ensures t to l)
+    (ap (λ n. take (c.sheet_end.result - (at + n)) (drop (at + n) bs)) c.record_len.ensures ∙ ap (λ n. take (n - past bs at) (drop (past bs at) bs)) (c.sheet_end.ensures t to l) ∙ l.shown)

@@ -17,17 +17,17 @@ sheet-end-at-requires c = sheet_at _ _ _ c.loop-at.invariant.ahead c.loop-at-tes
 
 pub loop-at-smaller : goal.loop-at-smaller
 loop-at-smaller c =
-    let h = goes_on _ _ _ _ c.loop-at.invariant.ahead c.loop-at-test.true c.sheet-end-at.ensures in
+    let h = goes_on _ _ _ _ c.loop-at.invariant.ahead c.loop-at-test.true c.sheet_end-at.ensures in
     omega arith
 
 pub loop-at-preserved : goal.loop-at-preserved
 loop-at-preserved c =
     let bs = c.args.self.now.bytes.now in
-    let to = c.sheet-end-at.result in
+    let to = c.sheet_end-at.result in
     let inv = c.loop-at.invariant in
     let go = c.loop-at-test.true in
-    let ends = c.sheet-end-at.ensures in
-    let is = c.kind-of.ensures in
+    let ends = c.sheet_end-at.ensures in
+    let is = c.kind_of.ensures in
     elim c.if-self-at.branch [
       | then-self-at w ↦ subst (Counting bs c.args.make to) (sym w.n-is) (counting_hit bs _ _ _ to inv go ends (w.if-self-at.true ∙ is))
       | else-self-at w ↦ subst (Counting bs c.args.make to) (sym w.n-is) (counting_miss bs _ _ _ to inv go ends (λ e. w.if-self-at.false (e ∙ sym is)))
