@@ -11,8 +11,8 @@ stepped c =
 pub loop-at-init : goal.loop-at-init
 loop-at-init c = onward_start _ _ _ c.requires.1
 
-pub overflow-add-at : goal.overflow-add-at
-overflow-add-at c = let s = stepped c in omega arith
+pub overflow_add-at : goal.overflow_add-at
+overflow_add-at c = let s = stepped c in omega arith
 
 pub loop-at-smaller : goal.loop-at-smaller
 loop-at-smaller c = let s = stepped c in omega arith

@@ -3,19 +3,19 @@ use Rattle.std.proofs.lemmas.Int.{to_z-of_z}
 use Rattle.catalogue.specs.Places.{Entries, past}
 use Rattle.catalogue.proofs.Scan.{entries_order, entries_end_lem, scope_read_lem, shown_same}
 use Rattle.catalogue.proofs.access.view_at.Goals as goal
-use Rattle.catalogue.proofs.access.view_at.Goals.{After-sheet-end}
+use Rattle.catalogue.proofs.access.view_at.Goals.{After-sheet_end}
 
-ends : (c : After-sheet-end) → Entries c.args.bytes.now (past c.args.bytes.now c.args.at) c.sheet-end.result
-ends c = let e = c.sheet-end.ensures c.requires.sheet c.requires.to c.requires.lies in rw e c.requires.lies.entries
+ends : (c : After-sheet_end) → Entries c.args.bytes.now (past c.args.bytes.now c.args.at) c.sheet_end.result
+ends c = let e = c.sheet_end.ensures c.requires.sheet c.requires.to c.requires.lies in rw e c.requires.lies.entries
 
-pub slice-bounds-result-count-2 : goal.slice-bounds-result-count-2
-slice-bounds-result-count-2 c = let h = entries_order (ends c) in let k = c.record-len.ensures in omega arith
+pub slice_bounds-result-count-2 : goal.slice_bounds-result-count-2
+slice_bounds-result-count-2 c = let h = entries_order (ends c) in let k = c.record_len.ensures in omega arith
 
-pub slice-bounds-result-start-2 : goal.slice-bounds-result-start-2
-slice-bounds-result-start-2 c = let h = entries_order (ends c) in let k = c.record-len.ensures in search rules
+pub slice_bounds-result-start-2 : goal.slice_bounds-result-start-2
+slice_bounds-result-start-2 c = let h = entries_order (ends c) in let k = c.record_len.ensures in search rules
 
-pub slice-bounds-result-end-2 : goal.slice-bounds-result-end-2
-slice-bounds-result-end-2 c = let h = entries_end_lem (ends c) in search rules
+pub slice_bounds-result-end-2 : goal.slice_bounds-result-end-2
+slice_bounds-result-end-2 c = let h = entries_end_lem (ends c) in search rules
 
 pub returns : goal.returns
 returns c =

@@ -9,15 +9,15 @@ loop-at-init c =
     let s = c.args.self.now in
     seeking_start _ _ _ _ (held s.bytes.now s.counts s.accepted s.octets)
 
-pub view-at-requires : goal.view-at-requires
-view-at-requires c = sheet_at _ _ _ c.loop-at.invariant.ahead c.loop-at-test.true
+pub view_at-requires : goal.view_at-requires
+view_at-requires c = sheet_at _ _ _ c.loop-at.invariant.ahead c.loop-at-test.true
 
 pub returns-then-left-eq0 : goal.returns-then-left-eq0
 returns-then-left-eq0 c =
     seeking_found _ _ _ _ _ c.loop-at.invariant c.loop-at-test.true _ (c.if-self-at.true ∙ c.kind_of.ensures) c.if-left-eq0.true c.view_at.ensures
 
-pub sheet-end-at-requires : goal.sheet-end-at-requires
-sheet-end-at-requires c = sheet_at _ _ _ c.loop-at.invariant.ahead c.loop-at-test.true
+pub sheet_end-at-requires : goal.sheet_end-at-requires
+sheet_end-at-requires c = sheet_at _ _ _ c.loop-at.invariant.ahead c.loop-at-test.true
 
 pub loop-at-smaller : goal.loop-at-smaller
 loop-at-smaller c =

@@ -9,11 +9,11 @@ loop-at-init c =
     let s = c.args.self.now in
     counting_start _ _ _ (held s.bytes.now s.counts s.accepted s.octets)
 
-pub overflow-add-n : goal.overflow-add-n
-overflow-add-n c = let h = c.loop-at.invariant.few in search rules
+pub overflow_add-n : goal.overflow_add-n
+overflow_add-n c = let h = c.loop-at.invariant.few in search rules
 
-pub sheet-end-at-requires : goal.sheet-end-at-requires
-sheet-end-at-requires c = sheet_at _ _ _ c.loop-at.invariant.ahead c.loop-at-test.true
+pub sheet_end-at-requires : goal.sheet_end-at-requires
+sheet_end-at-requires c = sheet_at _ _ _ c.loop-at.invariant.ahead c.loop-at-test.true
 
 pub loop-at-smaller : goal.loop-at-smaller
 loop-at-smaller c =
