@@ -9,7 +9,7 @@ use std::fmt;
 
 // Writes each option behind a space.
 fn write_options<W: fmt::Write>(options: &[u8], f: &mut fmt::Formatter<W>) -> fmt::Result
-    ensures { WritesOnOk write_str_gives f.old result (flat_map spaced options.now) f.new }
+    ensures { WritesOnOk W.write_str_gives f.old result (flat_map spaced options.now) f.new }
 {
     for option in options {
         write!(f, " {option}")?;

@@ -11,8 +11,8 @@ pub returns-then-option-ge-OPTIONS : goal.returns-then-option-ge-OPTIONS
 returns-then-option-ge-OPTIONS c =
     closed_same c.args.self.now.cells c.args.slot c.args.option (shut_high c.args.self.now.cells c.args.slot c.args.option (omega arith))
 
-pub returns-then-not-is-open : goal.returns-then-not-is-open
-returns-then-not-is-open c = closed_same c.args.self.now.cells c.args.slot c.args.option (λ h. false≢true (sym c.if-not-is-open.true ∙ c.is-open.ensures.1 h))
+pub returns-then-not-is_open : goal.returns-then-not-is_open
+returns-then-not-is_open c = closed_same c.args.self.now.cells c.args.slot c.args.option (λ h. false≢true (sym c.if-not-is_open.true ∙ c.is_open.ensures.1 h))
 
 pub returns : goal.returns
-returns c = closed c.args.self.now.cells c.args.slot c.args.option (omega arith) (omega arith) (c.is-open.ensures.0 c.if-not-is-open.false)
+returns c = closed c.args.self.now.cells c.args.slot c.args.option (omega arith) (omega arith) (c.is_open.ensures.0 c.if-not-is_open.false)

@@ -6,8 +6,8 @@ use Rattle.boxes.specs.Boxes.{opens}
 use Rattle.boxes.proofs.Counting.{ones_opened, sum_more, all_slots}
 use Rattle.boxes.proofs.OptionBox.count.Goals as goal
 
-pub overflow-add-n : goal.overflow-add-n
-overflow-add-n c =
+pub overflow_add-n : goal.overflow_add-n
+overflow_add-n c =
     let fits : get_or c.args.self.now.cells c.loop-slot.slot 0 < 2 ^ 32 = search rules in
     omega (arith, ones-le 32 (get_or c.args.self.now.cells c.loop-slot.slot 0) fits, c.loop-slot.invariant.1)
 

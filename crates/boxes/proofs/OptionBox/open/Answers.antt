@@ -9,8 +9,8 @@ returns-then-slot-ge-SLOTS c = opened_same c.args.self.now.cells c.args.slot c.a
 pub returns-then-option-ge-OPTIONS : goal.returns-then-option-ge-OPTIONS
 returns-then-option-ge-OPTIONS c = opened_same c.args.self.now.cells c.args.slot c.args.option (λ l k. absurd (omega arith))
 
-pub returns-then-is-open : goal.returns-then-is-open
-returns-then-is-open c = opened_same c.args.self.now.cells c.args.slot c.args.option (λ l k. c.is-open.ensures.0 c.if-is-open.true)
+pub returns-then-is_open : goal.returns-then-is_open
+returns-then-is_open c = opened_same c.args.self.now.cells c.args.slot c.args.option (λ l k. c.is_open.ensures.0 c.if-is_open.true)
 
 pub returns : goal.returns
-returns c = opened c.args.self.now.cells c.args.slot c.args.option (omega arith) (omega arith) (λ h. false≢true (sym c.if-is-open.false ∙ c.is-open.ensures.1 h))
+returns c = opened c.args.self.now.cells c.args.slot c.args.option (omega arith) (omega arith) (λ h. false≢true (sym c.if-is_open.false ∙ c.is_open.ensures.1 h))

@@ -13,7 +13,7 @@ loop-option-preserved g c = λ plain.
     let options = c.args.options.now in
     let i = c.loop-option.option-index in
     let before = c.loop-option.invariant plain in
-    let one = c.in-ok-write.ensures.shows before.plain (refl {a = true}) in
+    let one = c.in_ok-write.ensures.writes before.plain (refl {a = true}) in
     let more : flat_map spaced (take i options) ++ spaced (get_or options i 0) ≡ flat_map spaced (take (i + 1) options) = flat_map_more spaced [] (take i options) (get_or options i 0) ∙ ap (flat_map spaced) (sym (take_more options i 0 (omega arith))) in
     let took = g.W.Write.write_str_gives in
     has_written_of_eq took c.args.f.now _ _ c.write.new.self more (has_written_append took c.args.f.now (flat_map spaced (take i options)) c.loop-option.f (spaced (get_or options i 0)) c.write.new.self before one)

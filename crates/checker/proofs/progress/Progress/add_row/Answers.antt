@@ -17,10 +17,10 @@ returns c = λ s h.
     let under : rows_under m ≡ true = cc in
     let takes = takes_rows_lem bs at p m o n in
     let scope = scope_shown bs at p m o n (some_under m under) in
-    let k = c.in-ok-key.ensures in
-    let read = row_read_lem at p.slots p.options p.scope.now b c.in-ok-key.key.now k.is in
+    let k = c.in_ok-key.ensures in
+    let read = row_read_lem at p.slots p.options p.scope.now b c.in_ok-key.key.now k.is in
     let filled : well_filled s.options (scope_in o) b ≡ true = ap (λ os. well_filled os (scope_in o) b) (sym h.options) ∙ ap (λ ss. well_filled (take p.slots p.options) ss b) scope ∙ read.0 in
-    let stood = row_stood bs at p m o c.stood-before.result b c.in-ok-key.key.now n under read.1 k.long c.stood-before.ensures in
+    let stood = row_stood bs at p m o c.stood_before.result b c.in_ok-key.key.now n under read.1 k.long c.stood_before.ensures in
     let short : length p.scope.now ≤ 8 = omega (arith, k.long, k.short, c.requires.long) in
     let more = row_counts bs at p s.earlier m o b n under in
     record {

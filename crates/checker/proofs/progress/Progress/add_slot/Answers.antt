@@ -7,7 +7,7 @@ use Rattle.checker.proofs.progress.Progress.add_slot.Goals as goal
 pub returns : goal.returns
 returns c = λ bs s h.
     let p = c.args.self.now in
-    let t = take_more_set p.options p.slots c.in-ok-n.n (omega arith) in
+    let t = take_more_set p.options p.slots c.in_ok-n.n (omega arith) in
     let l = length-take-le p.slots p.options (omega arith) in
-    let k = c.in-ok-n.ensures in
+    let k = c.in_ok-n.ensures in
     record { is = grind (arith, nat_tests); shows = λ _. record { options = grind (arith, nat_tests); sheets = h.sheets; loads = h.loads; rows = h.rows; newest = still_none bs c.args.at _ p _ p.make s.newest (cc) h.newest } }

@@ -17,10 +17,10 @@ returns c = λ s h.
     let under : weights_under m ≡ true = cc in
     let takes = takes_weights_lem bs at p m o n in
     let scope = scope_shown bs at p m o n (some_under_weights m under) in
-    let k = c.in-ok-key.ensures in
-    let read = weight_read_lem at p.slots p.options p.scope.now b c.in-ok-key.key.now k.is in
+    let k = c.in_ok-key.ensures in
+    let read = weight_read_lem at p.slots p.options p.scope.now b c.in_ok-key.key.now k.is in
     let weighed : well_weighed s.options (scope_in o) (weight_of b) ≡ true = ap (λ os. well_weighed os (scope_in o) (weight_of b)) (sym h.options) ∙ ap (λ ss. well_weighed (take p.slots p.options) ss (weight_of b)) scope ∙ read.0 in
-    let stood = weight_stood bs at p m o c.stood-before.result b c.in-ok-key.key.now n under read.1 k.long c.stood-before.ensures in
+    let stood = weight_stood bs at p m o c.stood_before.result b c.in_ok-key.key.now n under read.1 k.long c.stood_before.ensures in
     let more = weight_more s.earlier o b in
     record {
       is = grind (arith, nat_tests);
