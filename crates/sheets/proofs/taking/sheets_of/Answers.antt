@@ -3,13 +3,13 @@ use Rattle.catalogue.specs.Verdict.{content}
 use Rattle.catalogue.specs.Views.{seen}
 use Rattle.sheets.proofs.Chosen.{count_few, count_said_lem, taken_of, filled_none, filled_more, filled_all, never_none}
 use Rattle.sheets.proofs.taking.sheets_of.Goals as goal
-use Rattle.sheets.proofs.taking.sheets_of.Goals.{in-Some, in-default}
+use Rattle.sheets.proofs.taking.sheets_of.Goals.{in-Some, in_default}
 
 pub sheets-init : goal.sheets-init
 sheets-init c = filled_none _ _ _ _ (omega arith)
 
-pub offset-bounds-items-i : goal.offset-bounds-items-i
-offset-bounds-items-i c =
+pub offset_bounds-items-i : goal.offset_bounds-items-i
+offset_bounds-items-i c =
     let k = c.args.catalogue.now in
     let few = count_few k.bytes.now k.counts k.accepted k.octets c.args.make in
     record { fits = omega arith }
@@ -23,28 +23,28 @@ bounds-items-i c =
 pub sheets-preserved : goal.sheets-preserved
 sheets-preserved c =
     let k = c.args.catalogue.now in
-    let count = c.sheet-count-count.ensures in
+    let count = c.sheet_count-count.ensures in
     let less = c.sheets-test.true in
     elim c.match-sheet.branch [
-      | in-Some w ↦ filled_more k.bytes.now k.counts k.accepted k.octets c.args.make c.sheets.items c.match-sheet.items c.sheets.i c.sheet-count-count.result w.in-Some.view c.sheets.invariant less count (ap seen (sym w.in-Some.is) ∙ c.sheet.ensures) w.items-is
-      | in-default w ↦ absurd (never_none (content k.bytes.now) c.args.make c.sheets.i c.sheet-count-count.result less count (ap seen (sym w.in-default.is) ∙ c.sheet.ensures))
+      | in-Some w ↦ filled_more k.bytes.now k.counts k.accepted k.octets c.args.make c.sheets.items c.match-sheet.items c.sheets.i c.sheet_count-count.result w.in-Some.view c.sheets.invariant less count (ap seen (sym w.in-Some.is) ∙ c.sheet.ensures) w.items-is
+      | in_default w ↦ absurd (never_none (content k.bytes.now) c.args.make c.sheets.i c.sheet_count-count.result less count (ap seen (sym w.in_default.is) ∙ c.sheet.ensures))
     ]
 
-pub invariant-of-result : goal.invariant-of-result
-invariant-of-result c =
+pub invariant_of-result : goal.invariant_of-result
+invariant_of-result c =
     let k = c.args.catalogue.now in
     let few = count_few k.bytes.now k.counts k.accepted k.octets c.args.make in
-    let count = c.sheet-count-count.ensures in
-    let is = c.block-of-views.ensures in
-    let shown = filled_all (content k.bytes.now) c.args.make c.sheets.items c.block-of-views.result.items c.sheets.i c.sheet-count-count.result c.sheets.invariant c.sheets-test.false count is in
-    (omega arith, (ap length is ∙ c.sheets.invariant.long, (∣ taken_of k.bytes.now k.counts k.accepted k.octets c.args.make c.block-of-views.result.items c.sheet-count-count.result shown ∣₁, tt)))
+    let count = c.sheet_count-count.ensures in
+    let is = c.block_of-views.ensures in
+    let shown = filled_all (content k.bytes.now) c.args.make c.sheets.items c.block_of-views.result.items c.sheets.i c.sheet_count-count.result c.sheets.invariant c.sheets-test.false count is in
+    record { few = omega arith; long = ap length is ∙ c.sheets.invariant.long; taken = ∣ taken_of k.bytes.now k.counts k.accepted k.octets c.args.make c.block_of-views.result.items c.sheet_count-count.result shown ∣₁ }
 
 pub returns : goal.returns
 returns c =
     let k = c.args.catalogue.now in
-    let count = c.sheet-count-count.ensures in
+    let count = c.sheet_count-count.ensures in
     record {
-      is = filled_all (content k.bytes.now) c.args.make c.sheets.items c.block-of-views.result.items c.sheets.i c.sheet-count-count.result c.sheets.invariant c.sheets-test.false count c.block-of-views.ensures;
+      is = filled_all (content k.bytes.now) c.args.make c.sheets.items c.block_of-views.result.items c.sheets.i c.sheet_count-count.result c.sheets.invariant c.sheets-test.false count c.block_of-views.ensures;
       make = refl;
       count = count ∙ count_said_lem (content k.bytes.now) c.args.make;
     }

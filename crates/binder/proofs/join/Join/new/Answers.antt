@@ -2,4 +2,4 @@ use Rattle.binder.proofs.Paired.{paired_beside}
 use Rattle.binder.proofs.join.Join.new.Goals as goal
 
 pub returns : goal.returns
-returns g c = paired_beside _ _ _ _ c.undo-all.ensures c.undo-all-2.ensures
+returns g c = paired_beside _ _ _ _ c.undo_all.ensures c.undo_all-2.ensures

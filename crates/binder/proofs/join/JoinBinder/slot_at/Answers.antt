@@ -13,7 +13,7 @@ returns-then-sheet-n g c =
     let n : ℕ = c.args.sheet in
     let t : Bool = s.both && eqb a.marks b.marks in
     let h : n < a.count = omega (arith, c.if-sheet-n.true, c.sheets-n.ensures) in
-    c.slot-at.ensures ∙ same_slot a n (paired s.both a b) n c.args.position (first_answers t a b n (g.A.Binder.proper s.first) h)
+    c.slot_at.ensures ∙ same_slot a n (paired s.both a b) n c.args.position (first_answers t a b n (g.A.Binder.proper s.first) h)
 
 pub returns-then-sheet-ge-SHEETS : goal.returns-then-sheet-ge-SHEETS
 returns-then-sheet-ge-SHEETS g c =
@@ -38,4 +38,4 @@ returns g c =
     let few : n < 1024 = omega (arith, c.if-sheet-ge-SHEETS.false) in
     let e : (s.both && eqb a.marks b.marks) ≡ true = sym c.level.ensures ∙ c.if-not-level.false in
     let q : c.sheets-n.result ≡ a.count = c.sheets-n.ensures in
-    c.slot-at-2.ensures ∙ ap (λ z. slot_at b (n - z) c.args.position) q ∙ same_slot b (n - a.count) (paired s.both a b) n c.args.position (second_answers s.both a b e n h few)
+    c.slot_at-2.ensures ∙ ap (λ z. slot_at b (n - z) c.args.position) q ∙ same_slot b (n - a.count) (paired s.both a b) n c.args.position (second_answers s.both a b e n h few)
