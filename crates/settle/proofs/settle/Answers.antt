@@ -10,13 +10,13 @@ returns-then-not-alive g c =
     settled_dry _ _ c.args.slots _ _ (tight_trans _ _ _ _ c.rounds.invariant _ _ c.round.ensures.tight) c.none.result.cells
     (λ a. both_ways _ c.if-not-alive.true (c.alive.ensures.1 a)) c.none.ensures.none
 
-pub returns-then-same-as : goal.returns-then-same-as
-returns-then-same-as g c =
-    settled_same _ _ _ c.args.slots _ _ _ c.rounds.invariant c.round.ensures (c.same-as.ensures.same (subst T (sym c.if-same-as.true) tt))
+pub returns-then-same_as : goal.returns-then-same_as
+returns-then-same_as g c =
+    settled_same _ _ _ c.args.slots _ _ _ c.rounds.invariant c.round.ensures (c.same_as.ensures.same (subst T (sym c.if-same_as.true) tt))
     (c.alive.ensures.0 c.if-not-alive.false)
 
 pub rounds-smaller : goal.rounds-smaller
-rounds-smaller g c = differ_less _ _ c.round.ensures.tight.within (c.same-as.ensures.other (λ t. subst T c.if-same-as.false t))
+rounds-smaller g c = differ_less _ _ c.round.ensures.tight.within (c.same_as.ensures.other (λ t. subst T c.if-same_as.false t))
 
 pub rounds-preserved : goal.rounds-preserved
 rounds-preserved g c = tight_trans _ _ _ _ c.rounds.invariant _ _ c.round.ensures.tight

@@ -3,8 +3,8 @@ use Rattle.bar.proofs.Products.{others_more, others_same, others_all, times, gro
 use Rattle.bar.proofs.tally.others.Goals as goal
 use Rattle.bar.proofs.tally.others.Goals.{then-place-position, else-place-position}
 
-pub overflow-mul-many : goal.overflow-mul-many
-overflow-mul-many c =
+pub overflow_mul-many : goal.overflow_mul-many
+overflow_mul-many c =
     let h : c.loop-place.place < 8 = omega arith in
     omega (
       arith,

@@ -6,5 +6,5 @@ pub loop-position-preserved : goal.loop-position-preserved
 loop-position-preserved c = (
   simp length-set c.loop-position.invariant.0,
   sizes_more c.args.slate.now.cells c.args.scope.now c.loop-position.sizes c.loop-position.position _
-      (omega (arith, c.loop-position.invariant.0)) c.size-of.ensures c.loop-position.invariant.1,
+      (omega (arith, c.loop-position.invariant.0)) c.size_of.ensures c.loop-position.invariant.1,
 )

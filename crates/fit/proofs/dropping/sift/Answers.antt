@@ -3,8 +3,8 @@ use Rattle.std.proofs.lemmas.Bool.{both_ways}
 use Rattle.fit.proofs.Sifting.{sifting_bad, sifting_from}
 use Rattle.fit.proofs.dropping.sift.Goals as goal
 
-pub row-fits-requires : goal.row-fits-requires
-row-fits-requires c =
+pub row_fits-requires : goal.row_fits-requires
+row_fits-requires c =
     let s = c.loop-place.invariant in
     let h : c.loop-place.place < c.args.count = omega (arith, s.fewer) in
     let a = sifting_from _ _ _ _ _ _ _ c.loop-place.place s h in
@@ -15,5 +15,5 @@ pub loop-place-preserved : goal.loop-place-preserved
 loop-place-preserved c =
     let s = c.loop-place.invariant in
     sifting_bad _ _ _ _ _ c.loop-place.left c.loop-place.place (omega (arith, c.requires.1.room)) c.loop-place-test.true
-    (λ g. both_ways _ c.if-row-fits.false (c.row-fits.ensures.1 g))
+    (λ g. both_ways _ c.if-row_fits.false (c.row_fits.ensures.1 g))
     s

@@ -6,9 +6,9 @@ use Rattle.fit.proofs.support.supports.Goals as goal
 pub rows-init : goal.rows-init
 rows-init c = filling_none _ _ _ _ _ _ _ _ (omega (arith, c.requires.short)) c.positions.invariant
 
-pub overflow-shl-masks : goal.overflow-shl-masks
+pub overflow_shl-masks : goal.overflow_shl-masks
 unfolding option_at
-overflow-shl-masks c = c.requires.low.each c.rows.place c.positions.position (omega arith) (omega arith)
+overflow_shl-masks c = c.requires.low.each c.rows.place c.positions.position (omega arith) (omega arith)
 
 pub positions-preserved-then-masks-position : goal.positions-preserved-then-masks-position
 unfolding option_at

@@ -10,15 +10,15 @@ options-init c = least_start c.args.cell (weighs c.args.table.now c.args.positio
 
 pub options-preserved : goal.options-preserved
 options-preserved c =
-    let is = c.weight-at-weight.ensures.is in
+    let is = c.weight_at-weight.ensures.is in
     let f = weighs c.args.table.now c.args.position in
     let option = c.highest-option.result in
     subst
     (λ (z : ℤ). LeastSoFar c.args.cell (without c.options.left option) f (Some z))
-    (sym (back c.lesser-least.result c.lesser-least.type-inv))
+    (sym (back c.lesser-least.result c.lesser-least.type_inv))
     (least_next c.args.cell f c.options.left option c.highest-option.ensures c.options.best c.lesser-least.result
-    (subst Small is c.weight-at-weight.ensures.small)
-    (subst (λ (z : ℤ). Lesser c.options.best z c.lesser-least.result) (back c.weight-at-weight.result c.weight-at-weight.type-inv ∙ is) c.lesser-least.ensures)
+    (subst Small is c.weight_at-weight.ensures.small)
+    (subst (λ (z : ℤ). Lesser c.options.best z c.lesser-least.result) (back c.weight_at-weight.result c.weight_at-weight.type_inv ∙ is) c.lesser-least.ensures)
     c.options.invariant)
 
 pub returns : goal.returns

@@ -6,8 +6,8 @@ use Rattle.load.proofs.masks.rest_of.Goals.{then-place-position, else-place-posi
 pub loop-place-init : goal.loop-place-init
 loop-place-init c = summed_none c.args.leasts.now c.args.arity c.args.position
 
-pub overflow-add-sum : goal.overflow-add-sum
-overflow-add-sum c =
+pub overflow_add-sum : goal.overflow_add-sum
+overflow_add-sum c =
     summed_fits c.args.leasts.now c.args.arity c.args.position c.loop-place.place _ c.told-leasts c.requires.0 c.loop-place-test.true c.loop-place.invariant (c.requires.1 c.loop-place.place c.loop-place-test.true)
 
 pub loop-place-preserved : goal.loop-place-preserved

@@ -21,7 +21,7 @@ weights-preserved c =
     let e : c.weights.i ≡ i + 1 = omega arith in
     let room : 5 * i + 5 ≤ length c.args.entries.now = omega arith in
     reading_more c.args.entries.now c.weights.table i _ room
-    (to_z-of_z w16 c.amount-at.result (record { sfits = c.amount-at.type-inv }) ∙ c.amount-at.ensures)
+    (to_z-of_z w16 c.amount_at.result (record { sfits = c.amount_at.type_inv }) ∙ c.amount_at.ensures)
     (subst (Reading c.args.entries.now c.weights.table) e c.weights.invariant)
 
 pub returns : goal.returns

@@ -5,5 +5,5 @@ use Rattle.bar.proofs.bars.Bar.new.Goals as goal
 pub returns : goal.returns
 returns c =
     let k = c.args.catalogue.now in
-    let t = c.sheets-of-sheets.result in
-    fresh k.bytes.now k.counts k.accepted k.octets t.views.items t.count c.sheets-of-sheets.ensures.is (omega (arith, t.few, t.long))
+    let t = c.sheets_of-sheets.result in
+    fresh k.bytes.now k.counts k.accepted k.octets t.views.items t.count c.sheets_of-sheets.ensures.is (omega (arith, t.few, t.long))

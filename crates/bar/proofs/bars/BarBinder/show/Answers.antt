@@ -18,4 +18,4 @@ returns c =
     let good : GoodBar (shown_by c.view-view.result) = subst GoodBar (sym c.view-view.ensures)
     (good_at x.sheets.make x.sheets.views.items x.sheets.count x.bars x.sheets.taken x.sheets.few x.sheets.long c.args.sheet low) in
     let eight : length c.supports-masks.result ≡ 8 = search rules in
-    record { shown = (low, shown x.sheets.views.items x.sheets.count x.marks c.args.sheet (shown_by c.view-view.result) low c.view-view.ensures good _ _ c.supports-masks.result eight c.supports-masks.ensures c.keep-only.ensures); stays = refl }
+    record { shown = (low, shown x.sheets.views.items x.sheets.count x.marks c.args.sheet (shown_by c.view-view.result) low c.view-view.ensures good _ _ c.supports-masks.result eight c.supports-masks.ensures c.keep_only.ensures); stays = refl }

@@ -3,8 +3,8 @@ use Rattle.fit.specs.Meaning.{laid_out}
 use Rattle.fit.proofs.Marking.{laid_marked, noted}
 use Rattle.fit.proofs.calls.FitBinder.mark.Goals as goal
 
-pub invariant-of-self : goal.invariant-of-self
-invariant-of-self c = let s = c.args.self.now in (∣ laid_marked _ _ _ _ _ _ _ (laid_out _ _ _ _ _ _ _ s.laid) (omega arith) ∣₁, tt)
+pub invariant_of-self : goal.invariant_of-self
+invariant_of-self c = let s = c.args.self.now in record { laid = ∣ laid_marked _ _ _ _ _ _ _ (laid_out _ _ _ _ _ _ _ s.laid) (omega arith) ∣₁ }
 
 pub returns : goal.returns
 returns c =

@@ -16,12 +16,12 @@ sift-left-requires c =
       subst (λ es. Whole s.order es (get_or s.starts c.args.sheet 0) (get_or s.counts c.args.sheet 0)) (sym (ap (λ v. v.entries) c.view-view.ensures)) (whole _ _ _ _ _ _ _ x _ hs),
     )
 
-pub invariant-of-self : goal.invariant-of-self
-invariant-of-self c =
+pub invariant_of-self : goal.invariant_of-self
+invariant_of-self c =
     let s = c.args.self.now in
     let x = laid_out _ _ _ _ _ _ _ s.laid in
     let done = at_sheet _ _ _ _ (λ sc es. Sifted (Suits c.args.slate.now.cells sc es) s.order c.sift-left.new.order (get_or s.starts c.args.sheet 0) (get_or s.counts c.args.sheet 0) c.sift-left.result) (ap (λ v. v.scope) c.view-view.ensures) (ap (λ v. v.entries) c.view-view.ensures) c.sift-left.ensures in
-    (∣ laid_sifted _ _ _ _ _ _ _ x _ c.if-sheet-self.false _ _ _ done ∣₁, tt)
+    record { laid = ∣ laid_sifted _ _ _ _ _ _ _ x _ c.if-sheet-self.false _ _ _ done ∣₁ }
 
 pub supports-masks-requires : goal.supports-masks-requires
 supports-masks-requires c =
@@ -50,7 +50,7 @@ returns c =
     let b : List ℕ = c.args.slate.now.cells in
     let done = at_sheet _ _ _ _ (λ sc es. Sifted (Suits b sc es) s.order c.sift-left.new.order from (get_or s.counts c.args.sheet 0) c.sift-left.result) scope entries c.sift-left.ensures in
     let masks = at_sheet _ _ _ _ (λ sc es. Gathered b sc c.sift-left.new.order es c.supports-masks.result from c.sift-left.result (length sc)) scope entries c.supports-masks.ensures in
-    let narrow = narrowed_all _ _ _ _ _ (x.sound.short _ hs) masks.long scope c.keep-only.ensures in
+    let narrow = narrowed_all _ _ _ _ _ (x.sound.short _ hs) masks.long scope c.keep_only.ensures in
     record {
       shown = (hs, shown _ _ _ _ _ _ _ x _ hs _ _ _ done _ _ masks narrow);
       exact = exact _ _ _ _ _ _ _ x _ hs _ _ _ done;

@@ -3,16 +3,16 @@ use Rattle.fit.specs.Meaning.{laid_out}
 use Rattle.fit.proofs.Marking.{laid_undone, undone}
 use Rattle.fit.proofs.calls.FitBinder.undo.Goals as goal
 
-pub offset-bounds-self-self : goal.offset-bounds-self-self
-offset-bounds-self-self c = let s = c.args.self.now in let h : s.marks ≤ 72 = (laid_out _ _ _ _ _ _ _ s.laid).low in omega arith
+pub offset_bounds-self-self : goal.offset_bounds-self-self
+offset_bounds-self-self c = let s = c.args.self.now in let h : s.marks ≤ 72 = (laid_out _ _ _ _ _ _ _ s.laid).low in omega arith
 
 pub bounds-self-self : goal.bounds-self-self
 bounds-self-self c =
     let s = c.args.self.now in let h : s.marks ≤ 72 = (laid_out _ _ _ _ _ _ _ s.laid).low in omega (arith, c.if-self-eq0.false)
 
-pub invariant-of-self : goal.invariant-of-self
-invariant-of-self c =
-    let s = c.args.self.now in (∣ laid_undone _ _ _ _ _ _ _ (laid_out _ _ _ _ _ _ _ s.laid) (omega (arith, c.if-self-eq0.false)) ∣₁, tt)
+pub invariant_of-self : goal.invariant_of-self
+invariant_of-self c =
+    let s = c.args.self.now in record { laid = ∣ laid_undone _ _ _ _ _ _ _ (laid_out _ _ _ _ _ _ _ s.laid) (omega (arith, c.if-self-eq0.false)) ∣₁ }
 
 pub returns : goal.returns
 returns c =

@@ -14,8 +14,8 @@ returns c =
     let masks = c.support-masks.result in record {
       shown = (
         there,
-        shown x.sheets.views.items x.sheets.count x.weights x.marks s there scoped c.args.slate.now.cells c.keep-only.new.slate.cells masks c.support-masks.ensures
-            (subst (λ (v : Shown). Narrowed c.args.slate.now.cells c.keep-only.new.slate.cells v.scope masks (shorter v.scope masks)) c.view-view.ensures c.keep-only.ensures),
+        shown x.sheets.views.items x.sheets.count x.weights x.marks s there scoped c.args.slate.now.cells c.keep_only.new.slate.cells masks c.support-masks.ensures
+            (subst (λ (v : Shown). Narrowed c.args.slate.now.cells c.keep_only.new.slate.cells v.scope masks (shorter v.scope masks)) c.view-view.ensures c.keep_only.ensures),
       );
       stays = refl;
     }

@@ -7,8 +7,8 @@ use Rattle.samples.proofs.draft.Draft.fields.Goals as goal
 
 pub returns : goal.returns
 returns c =
-    let first = c.in-ok-raw.ensures in
-    let unused = c.unused-behind.ensures in
+    let first = c.in_ok-raw.ensures in
+    let unused = c.unused_behind.ensures in
     let left = ap length unused ∙ length-replicate _ _ in
     record {
       bytes = twice _ c.raw-2.result (vec_items c.args.self.bytes) _ c.args.used.now _ _ first.bytes unused c.raw-2.ensures.bytes;
