@@ -7,5 +7,5 @@ use Rattle.commands.proofs.parse.parse.Goals as goal
 pub returns-in-len1-up : goal.returns-in-len1-up
 returns-in-len1-up c =
     let line = c.args.line.now in
-    let is : c.call-by.result ≡ call_of line = c.call-by.ensures ∙ ap call_of (sym (first_rest line 0 (omega (arith, ltb-true, ltb-false)))) in
+    let is : c.call_by.result ≡ call_of line = c.call_by.ensures ∙ ap call_of (sym (first_rest line 0 (omega (arith, ltb-true, ltb-false)))) in
     record { is = is; law = call_read line _ is }

@@ -9,20 +9,20 @@ use Rattle.commands.proofs.lines.Lines.next_line.Goals.{then-end-input, else-end
 pub returns-then-from-input : goal.returns-then-from-input
 returns-then-from-input c = (ap lines_of (drop_all _ _ c.if-from-input.true), refl)
 
-pub overflow-add-end : goal.overflow-add-end
-overflow-add-end c =
-    let within = simp (take_rest, length-drop) at c.place-of.ensures.within in
+pub overflow_add-end : goal.overflow_add-end
+overflow_add-end c =
+    let within = simp (take_rest, length-drop) at c.place_of.ensures.within in
     search rules
 
-pub slice-bounds-result-end : goal.slice-bounds-result-end
-slice-bounds-result-end c =
-    let within = simp (take_rest, length-drop) at c.place-of.ensures.within in
+pub slice_bounds-result-end : goal.slice_bounds-result-end
+slice_bounds-result-end c =
+    let within = simp (take_rest, length-drop) at c.place_of.ensures.within in
     search rules
 
 pub returns : goal.returns
 returns c =
     let bs = c.args.self.now.input.now in
     let from = c.args.self.now.at in
-    let is = c.place-of.ensures.is ∙ ap (ahead 10) (take_rest bs from) in
-    line_there bs from c.place-of.result c.if-end-input.self c.if-from-input.false is
+    let is = c.place_of.ensures.is ∙ ap (ahead 10) (take_rest bs from) in
+    line_there bs from c.place_of.result c.if-end-input.self c.if-from-input.false is
     (elim c.if-end-input.branch [ then-end-input w ↦ inl w.self-is | else-end-input w ↦ inr (w.self-is, omega (arith, w.self-is, w.if-end-input.false)) ])

@@ -3,8 +3,8 @@ use Rattle.explore.specs.Narrow.{box_at}
 use Rattle.explore.proofs.Stacking.{narrow_low}
 use Rattle.explore.proofs.stack.Stack.new.Goals as goal
 
-pub invariant-of-result : goal.invariant-of-result
-invariant-of-result c = ((omega arith, refl), (∣ narrow_low _ _ (omega arith) ∣₁, tt))
+pub invariant_of-result : goal.invariant_of-result
+invariant_of-result c = record { tall = (omega arith, refl); narrow = ∣ narrow_low _ _ (omega arith) ∣₁ }
 
 pub returns : goal.returns
 unfolding box_at

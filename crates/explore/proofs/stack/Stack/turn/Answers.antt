@@ -8,15 +8,15 @@ use Rattle.explore.proofs.Weights.{weight_drop}
 use Rattle.explore.proofs.Turning.{exploring_over, turn_dry, turn_found, turn_split}
 use Rattle.explore.proofs.stack.Stack.turn.Goals as goal
 
-pub returns-then-not-has-open : goal.returns-then-not-has-open
-returns-then-not-has-open g c =
+pub returns-then-not-has_open : goal.returns-then-not-has_open
+returns-then-not-has_open g c =
     let t = c.args.self.now in
     let high : t.top ≡ suc (t.top - 1) = omega (arith, c.if-self-eq0.false) in
     record {
       law = λ P D G X m e a.
           turn_dry _ _ t.top (t.top - 1) _ _ _ _ c.args.slots _ _ high c.next-slate.ensures c.settle.ensures P D G X m e a
-          c.drop-next.ensures.same c.drop-next.ensures.top c.drop-next.ensures.undone (λ w. both_ways _ c.if-not-has-open.true (c.has-open.ensures.1 w));
-      less = weight_drop _ _ t.top _ c.drop-next.ensures.same c.drop-next.ensures.top;
+          c.drop_next.ensures.same c.drop_next.ensures.top c.drop_next.ensures.undone (λ w. both_ways _ c.if-not-has_open.true (c.has_open.ensures.1 w));
+      less = weight_drop _ _ t.top _ c.drop_next.ensures.same c.drop_next.ensures.top;
       long = tt;
     }
 
@@ -24,11 +24,11 @@ pub returns-then-slot-eq-SLOTS : goal.returns-then-slot-eq-SLOTS
 returns-then-slot-eq-SLOTS g c =
     let t = c.args.self.now in
     let high : t.top ≡ suc (t.top - 1) = omega (arith, c.if-self-eq0.false) in
-    let fewer = c.drop-next-then-slot-eq-SLOTS.ensures in
+    let fewer = c.drop_next-then-slot-eq-SLOTS.ensures in
     record {
       law = λ P D G X m e a.
           turn_found _ _ t.top (t.top - 1) _ _ _ _ c.args.slots _ _ high c.next-slate.ensures c.settle.ensures P D G X m e a
-          fewer.same fewer.top fewer.undone (g.B.Binder.proper c.args.binder.now) (c.has-open.ensures.0 c.if-not-has-open.false)
+          fewer.same fewer.top fewer.undone (g.B.Binder.proper c.args.binder.now) (c.has_open.ensures.0 c.if-not-has_open.false)
           c.settle.new.slate.long (subst (Loose c.settle.new.slate.cells) c.if-slot-eq-SLOTS.true c.loose-slot.ensures) _ c.lay-plan.ensures;
       less = weight_drop _ _ t.top _ fewer.same fewer.top;
       long = c.lay-plan.ensures.long;

@@ -5,5 +5,5 @@ use Rattle.planner.proofs.state.Planner.open.Goals as goal
 pub returns : goal.returns
 returns g c =
     let k = c.args.catalogue.now in
-    opened_at_lem _ _ _ _ _ c.undo-all.ensures c.first-box-slate.ensures c.slots-of-slots.ensures refl (slots_small k.bytes.now k.counts k.accepted k.octets)
+    opened_at_lem _ _ _ _ _ c.undo_all.ensures c.first_box-slate.ensures c.slots_of-slots.ensures refl (slots_small k.bytes.now k.counts k.accepted k.octets)
     (slots_some k.bytes.now k.counts k.accepted k.octets)

@@ -18,35 +18,35 @@ returns-in-Spent-default g c = record {
   slots = c.turns.invariant.0.slots;
 }
 
-pub returns-in-default-Empty : goal.returns-in-default-Empty
-returns-in-default-Empty g c = record {
+pub returns-in_default-Empty : goal.returns-in_default-Empty
+returns-in_default-Empty g c = record {
   law = λ P L a.
-      turn_empty _ _ _ _ _ c.turns.invariant.0 refl refl refl refl c.turn-outcome.ensures.law c.turn-outcome.ensures.less c.in-default-Empty.is-1 refl P L _ c.args.memory.now (omega (arith, c.if-memory-count.false)) a;
+      turn_empty _ _ _ _ _ c.turns.invariant.0 refl refl refl refl c.turn-outcome.ensures.law c.turn-outcome.ensures.less c.in_default-Empty.is-1 refl P L _ c.args.memory.now (omega (arith, c.if-memory-count.false)) a;
   wrote = c.turns.invariant.1;
   refused = omega (arith, c.if-memory-count.false);
   slots = c.turns.invariant.0.slots;
 }
 
-pub returns-in-default-Found : goal.returns-in-default-Found
-returns-in-default-Found g c =
+pub returns-in_default-Found : goal.returns-in_default-Found
+returns-in_default-Found g c =
     let count = c.args.self.now.planner.slots.count in
     let few = c.args.self.now.planner.slots.few in
-    let plan = c.in-default-Found.plan in
-    let long : length plan ≡ 48 = subst Long c.in-default-Found.is-1 c.turn-outcome.ensures.long in
-    let wrote : c.write-plan.new.memory ≡ take count plan ++ drop count c.args.memory.now = c.write-plan.ensures ∙ ap (λ x. take count plan ++ drop count x) c.turns.invariant.1 in
-    let front : take count c.write-plan.new.memory ≡ take count plan = front_of count plan c.args.memory.now c.write-plan.new.memory (omega (arith, few.0, long)) wrote in
+    let plan = c.in_default-Found.plan in
+    let long : length plan ≡ 48 = subst Long c.in_default-Found.is-1 c.turn-outcome.ensures.long in
+    let wrote : c.write_plan.new.memory ≡ take count plan ++ drop count c.args.memory.now = c.write_plan.ensures ∙ ap (λ x. take count plan ++ drop count x) c.turns.invariant.1 in
+    let front : take count c.write_plan.new.memory ≡ take count plan = front_of count plan c.args.memory.now c.write_plan.new.memory (omega (arith, few.0, long)) wrote in
     record {
       law = λ P L a.
-          turn_found _ _ _ _ _ c.turns.invariant.0 refl refl refl refl c.turn-outcome.ensures.law c.turn-outcome.ensures.less _ plan c.in-default-Found.is-1 refl P L _ (omega (arith, c.if-memory-count.false)) front a;
+          turn_found _ _ _ _ _ c.turns.invariant.0 refl refl refl refl c.turn-outcome.ensures.law c.turn-outcome.ensures.less _ plan c.in_default-Found.is-1 refl P L _ (omega (arith, c.if-memory-count.false)) front a;
       wrote = wrote ∙ ap (λ x. x ++ drop count c.args.memory.now) (sym front);
       refused = omega (arith, c.if-memory-count.false);
       slots = c.turns.invariant.0.slots;
     }
 
-pub turns-preserved-in-default-Dry : goal.turns-preserved-in-default-Dry
-turns-preserved-in-default-Dry g c =
-    (turn_dry _ _ _ _ _ c.turns.invariant.0 refl refl refl refl c.turn-outcome.ensures.law c.turn-outcome.ensures.less c.in-default-Dry.is-1 refl c.in-default-Dry.not-Spent-0, c.turns.invariant.1)
+pub turns-preserved-in_default-Dry : goal.turns-preserved-in_default-Dry
+turns-preserved-in_default-Dry g c =
+    (turn_dry _ _ _ _ _ c.turns.invariant.0 refl refl refl refl c.turn-outcome.ensures.law c.turn-outcome.ensures.less c.in_default-Dry.is-1 refl c.in_default-Dry.not-Spent-0, c.turns.invariant.1)
 
 pub turns-preserved : goal.turns-preserved
 turns-preserved g c =
-    (turn_split _ _ _ _ _ c.turns.invariant.0 refl refl refl refl c.turn-outcome.ensures.law c.turn-outcome.ensures.less c.in-default-Split.is-1 refl c.in-default-Split.not-Spent-0, c.turns.invariant.1)
+    (turn_split _ _ _ _ _ c.turns.invariant.0 refl refl refl refl c.turn-outcome.ensures.law c.turn-outcome.ensures.less c.in_default-Split.is-1 refl c.in_default-Split.not-Spent-0, c.turns.invariant.1)
