@@ -4,7 +4,7 @@ use Rattle.std.proofs.Common.{sym, ap, subst, ◌∙◌, arith}
 use Rattle.std.proofs.Math.Logic.{∥∥₁_elim}
 use mathlib.Core.HLevel.{⊥_prop}
 use Rattle.std.proofs.Math.Bridge.{le_prop}
-use Rattle.std.specs.List.{AllByRecursion as All}
+use Rattle.std.specs.List.{AllByRecursion}
 use Rattle.std.proofs.ByRecursion.{All-get_or}
 use Rattle.std.proofs.lemmas.Bool.{lt-ltb, and_parts, eqb-true, ltb-true, cond-true, false≢true}
 use Rattle.catalogue.specs.declared.make.Make.{Make}
@@ -55,7 +55,7 @@ good_showing options t low g m few =
     }
 
 -- no sheet has more rows than all of them
-few_rows : (options : List ℕ) (ts : List Sheet) (views : List View) (n s : ℕ) → All (GoodSheet options) ts → All (λ t. t.make ≡ Bar) ts
+few_rows : (options : List ℕ) (ts : List Sheet) (views : List View) (n s : ℕ) → AllByRecursion (GoodSheet options) ts → AllByRecursion (λ t. t.make ≡ Bar) ts
     → map showing ts ≡ shown_in views n → s < n → n ≤ length views → length (shown_at views s).entries ≤ 9 * rows_in ts
 few_rows options ts [] n s good bars e l h = absurd (omega arith)
 few_rows options ts (v ∷ vs) zero s good bars e l h = absurd (omega arith)

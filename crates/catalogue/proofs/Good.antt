@@ -1,7 +1,7 @@
 -- That scopes, rows and weights that pass the tests of a file are good, and that a good sheet stays good with one more. Assumes nothing.
 use Rattle.std.proofs.Common.{◌≡◌, ℕ, ◌<◌, ◌≤◌, true, false, not, eqb, ltb, List, [], ◌∷◌, ◌++◌, length, get_or, take, negsuc, sym, refl, ap, subst, arith, rules}
 use lib.Signed.{lt_z}
-use Rattle.std.specs.List.{AllByRecursion as All}
+use Rattle.std.specs.List.{AllByRecursion}
 use Rattle.std.proofs.ByRecursion.{All-push}
 use Rattle.std.proofs.lemmas.Slice.Eq.{compares_Decides}
 use Rattle.std.proofs.lemmas.Int.{ints}
@@ -15,24 +15,24 @@ use Rattle.catalogue.specs.Law.{Octets}
 use Rattle.catalogue.proofs.Bodies.{sizes, cap_fits}
 
 -- a number or a list that a list has not
-has_not : (x : ℕ) (xs : List ℕ) → has x xs ≡ false → All (λ y. x ≡ y → ⊥) xs
+has_not : (x : ℕ) (xs : List ℕ) → has x xs ≡ false → AllByRecursion (λ y. x ≡ y → ⊥) xs
 has_not x [] e = tt
 has_not x (y ∷ ys) e = let p = or_parts (eqb x y) (has x ys) e in (eqb-false x y p.0, has_not x ys p.1)
 
-has_no_list : (x : List ℕ) (ys : List (List ℕ)) → has_list x ys ≡ false → All (λ y. x ≡ y → ⊥) ys
+has_no_list : (x : List ℕ) (ys : List (List ℕ)) → has_list x ys ≡ false → AllByRecursion (λ y. x ≡ y → ⊥) ys
 has_no_list x [] e = tt
 has_no_list x (y ∷ ys) e =
     let p = or_parts (same x y) (has_list x ys) e in
     (not_from_Decides (same x y) (compares_Decides same (search rules) x y) p.0, has_no_list x ys p.1)
 
 -- one more element that is none of those before
-apart_push : {X : Type 0} (xs : List X) (x : X) → Apart xs → All (λ y. x ≡ y → ⊥) xs → Apart (xs ++ x ∷ [])
+apart_push : {X : Type 0} (xs : List X) (x : X) → Apart xs → AllByRecursion (λ y. x ≡ y → ⊥) xs → Apart (xs ++ x ∷ [])
 apart_push [] x a n = (tt, tt)
 apart_push (y ∷ ys) x a n =
     (All-push (λ z. y ≡ z → ⊥) ys x a.0 (λ e. n.0 (sym e)), apart_push ys x a.1 n.1)
 
 -- A scope that passes names slots that are there, none twice.
-scope_known : (n : ℕ) (ss : List ℕ) → well_scoped n ss ≡ true → All (λ s. s < n) ss
+scope_known : (n : ℕ) (ss : List ℕ) → well_scoped n ss ≡ true → AllByRecursion (λ s. s < n) ss
 scope_known n [] e = tt
 scope_known n (s ∷ ss) e =
     let p = and_parts (ltb s n) _ e in

@@ -1,6 +1,6 @@
 -- Where the slots and the sheets of a written list lie in its bytes. Assumes nothing.
 use Rattle.std.proofs.Common.{◌≡◌, ℕ, zero, suc, ◌+◌, ◌-◌, ◌*◌, ◌/◌, ◌%◌, ◌<◌, ◌≤◌, true, false, List, [], ◌∷◌, ◌++◌, length, get_or, take, drop, replicate, ℤ, sym, refl, ap, ◌∙◌, subst, append_assoc, append-nil, add-zero, arith, w32, SFits, to_z, of_z}
-use Rattle.std.specs.List.{flat_map, AllByRecursion as All}
+use Rattle.std.specs.List.{flat_map, AllByRecursion}
 use Rattle.std.proofs.ByRecursion.{All-weaker}
 use Rattle.std.proofs.lemmas.List.Prefix.{at_reads}
 use Rattle.std.proofs.lemmas.List.{get_or-drop, length-append, length-drop, length-replicate, drop-drop, drop_at, take_at}
@@ -41,7 +41,7 @@ record Entry (xs : List ℕ) : Type 0 where
   long : length xs ≡ 1 + body_len (get_or xs 0 0)
 
 -- entries lie one behind another
-run : {X : Type 0} (f : X → List ℕ) (bs : List ℕ) (to : ℕ) (xs : List X) (at : ℕ) (rest : List ℕ) → All (λ x. Entry (f x)) xs → drop at bs ≡ flat_map f xs ++ rest → Entries bs (at + length (flat_map f xs)) to → Entries bs at to
+run : {X : Type 0} (f : X → List ℕ) (bs : List ℕ) (to : ℕ) (xs : List X) (at : ℕ) (rest : List ℕ) → AllByRecursion (λ x. Entry (f x)) xs → drop at bs ≡ flat_map f xs ++ rest → Entries bs (at + length (flat_map f xs)) to → Entries bs at to
 run f bs to [] at rest g e r = subst (λ n. Entries bs n to) (add-zero at) r
 run f bs to (x ∷ xs) at rest g e r =
     let long = g.0.long in
@@ -177,7 +177,7 @@ ending_other [] = refl
 ending_other (t ∷ ts) = header_other t.make
 
 -- sheets that are written from a place on lie there
-ahead : (options bs : List ℕ) (at : ℕ) (ts : List Sheet) → All (GoodSheet options) ts → drop at bs ≡ ending ts → Ahead bs at ts
+ahead : (options bs : List ℕ) (at : ℕ) (ts : List Sheet) → AllByRecursion (GoodSheet options) ts → drop at bs ≡ ending ts → Ahead bs at ts
 ahead options bs at [] g e = end (omega (arith, inside bs at (7 ∷ []) e (omega arith))) (first bs at (7 ∷ []) [] e (omega arith))
 ahead options bs at (t ∷ ts) g e =
     let is : drop at bs ≡ sheet_bytes t ++ ending ts = e ∙ append_assoc (sheet_bytes t) (flat_map sheet_bytes ts) (7 ∷ []) in

@@ -1,7 +1,7 @@
 -- What is sound passes its tests: scopes, rows, weights and signed numbers, as they are written. Assumes nothing.
 use Rattle.std.proofs.Common.{◌≡◌, ℕ, zero, suc, ◌+◌, ◌-◌, ◌*◌, ◌/◌, ◌%◌, ◌<◌, ◌≤◌, true, false, List, [], ◌∷◌, ◌++◌, length, get_or, take, drop, replicate, ℤ, pos, negsuc, ◌≤ℤ◌, sym, refl, ap, ◌∙◌, subst, append_assoc, one-add, arith, w16, w32, SFits, to_z, of_z, rules}
 use lib.Signed.{lt_z}
-use Rattle.std.specs.List.{AllByRecursion as All}
+use Rattle.std.specs.List.{AllByRecursion}
 use Rattle.std.proofs.lemmas.Slice.Eq.{compares_Decides}
 use Rattle.std.proofs.lemmas.List.{length-append, length-replicate, take_at, drop_at}
 use Rattle.std.proofs.lemmas.Int.{ints, to_z-of_z}
@@ -66,27 +66,27 @@ pub row_back : (options scope xs : List ℕ) → GoodRow options scope xs → ta
 row_back options scope xs g = take_at xs _ (length scope) (length_row options scope xs g)
 
 -- what stands nowhere in a list is not found there
-has_none : (x : ℕ) (ys : List ℕ) → All (λ y. x ≡ y → ⊥) ys → has x ys ≡ false
+has_none : (x : ℕ) (ys : List ℕ) → AllByRecursion (λ y. x ≡ y → ⊥) ys → has x ys ≡ false
 has_none x [] a = refl
 has_none x (y ∷ ys) a = or_from _ _ (ne_eqb x y a.0) (has_none x ys a.1)
 
 same_not : (x y : List ℕ) → (x ≡ y → ⊥) → same x y ≡ false
 same_not x y h = not-true (same x y) ((Decides-not (same x y) (compares_Decides same (search rules) x y)).1 h)
 
-list_none : (x : List ℕ) (ys : List (List ℕ)) → All (λ y. x ≡ y → ⊥) ys → has_list x ys ≡ false
+list_none : (x : List ℕ) (ys : List (List ℕ)) → AllByRecursion (λ y. x ≡ y → ⊥) ys → has_list x ys ≡ false
 list_none x [] a = refl
 list_none x (y ∷ ys) a = or_from _ _ (same_not x y a.0) (list_none x ys a.1)
 
 -- what holds of each element holds of one between others
-pub all_mid : {X : Type 0} {all : List X} (P : X → Type 0) (done : List X) (x : X) (left : List X) → done ++ x ∷ left ≡ all → All P all → P x
-all_mid {X} P done x left e a = among done (subst (All P) (sym e) a)
+pub all_mid : {X : Type 0} {all : List X} (P : X → Type 0) (done : List X) (x : X) (left : List X) → done ++ x ∷ left ≡ all → AllByRecursion P all → P x
+all_mid {X} P done x left e a = among done (subst (AllByRecursion P) (sym e) a)
   where
-    among : (before : List X) → All P (before ++ x ∷ left) → P x
+    among : (before : List X) → AllByRecursion P (before ++ x ∷ left) → P x
     among [] h = h.0
     among (y ∷ before) h = among before h.1
 
 -- none of the elements before one is the same
-before_none : {X : Type 0} (done : List X) (x : X) (left : List X) → Apart (done ++ x ∷ left) → All (λ y. x ≡ y → ⊥) done
+before_none : {X : Type 0} (done : List X) (x : X) (left : List X) → Apart (done ++ x ∷ left) → AllByRecursion (λ y. x ≡ y → ⊥) done
 before_none [] x left a = tt
 before_none (y ∷ done) x left a = (λ e. all_mid (λ z. y ≡ z → ⊥) done x left refl a.0 (sym e), before_none done x left a.1)
 
@@ -95,7 +95,7 @@ pub not_yet : {all : List (List ℕ)} (done : List (List ℕ)) (x : List ℕ) (l
 not_yet done x left e a = list_none x done (before_none done x left (subst Apart (sym e) a))
 
 -- a scope's own test
-pub scopes_well : (n : ℕ) (ss : List ℕ) → All (λ s. s < n) ss → Apart ss → well_scoped n ss ≡ true
+pub scopes_well : (n : ℕ) (ss : List ℕ) → AllByRecursion (λ s. s < n) ss → Apart ss → well_scoped n ss ≡ true
 scopes_well n [] k a = refl
 scopes_well n (s ∷ ss) k a = and_from _ _ (lt-ltb s n k.0) (and_from _ _ (not_from_false _ (has_none s ss a.0)) (scopes_well n ss k.1 a.1))
 

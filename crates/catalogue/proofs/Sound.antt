@@ -1,6 +1,6 @@
 -- That accepted bytes are the writing of a sound list of slots and sheets. Assumes nothing.
 use Rattle.std.proofs.Common.{◌≡◌, ℕ, suc, ◌+◌, ◌≤◌, Bool, true, false, cond, ◌&&◌, eqb, leb, List, [], ◌∷◌, ◌++◌, length, get_or, take, drop, Some, None, Ok, Option, sym, refl, ap, ◌∙◌, subst, arith, take-add}
-use Rattle.std.specs.List.{flat_map, AllByRecursion as All}
+use Rattle.std.specs.List.{flat_map, AllByRecursion}
 use Rattle.std.proofs.ByRecursion.{All-push}
 use Rattle.std.proofs.lemmas.List.{append_assoc, append-nil, flat_map_more, take_more, take_all, length_push, length-take-le, length-drop, nil_from_length}
 use Rattle.std.proofs.lemmas.Bool.{and_parts, or_parts, not-true, not-false, false≢true, leb-true, leb-false, ltb-false, eqb-true, eqb-false}
@@ -68,11 +68,11 @@ lies bs at o r =
 record Seen (bs : List ℕ) (at : ℕ) (s : Said) : Type 0 where
   front : take at bs ≡ flat_map slot_bytes s.options ++ flat_map sheet_bytes (sheets_of s)
   slots : length s.options ≤ 48
-  sizes : All (λ n. (1 ≤ n) × (n ≤ 32)) s.options
+  sizes : AllByRecursion (λ n. (1 ≤ n) × (n ≤ 32)) s.options
   sheets : length (sheets_of s) ≤ 64
   loads : loads_in (sheets_of s) ≤ 8
   rows : rows_in (sheets_of s) ≤ 4096
-  good : All (GoodSheet s.options) (sheets_of s)
+  good : AllByRecursion (GoodSheet s.options) (sheets_of s)
   first : s.newest ≡ None → s.earlier ≡ []
 
 seen_none : (bs : List ℕ) → Seen bs 0 nothing
@@ -91,7 +91,7 @@ loads_push : (ts : List Sheet) (t : Sheet) → loads_in (ts ++ t ∷ []) ≡ loa
 loads_push [] t = omega arith
 loads_push (u ∷ ts) t = omega (arith, loads_push ts t)
 
-all_split : {X : Type 0} (P : X → Type 0) (xs : List X) (y : X) → All P (xs ++ y ∷ []) → All P xs × P y
+all_split : {X : Type 0} (P : X → Type 0) (xs : List X) (y : X) → AllByRecursion P (xs ++ y ∷ []) → AllByRecursion P xs × P y
 all_split P [] y a = (tt, a.0)
 all_split P (x ∷ xs) y a = let r = all_split P xs y a.1 in ((a.0, r.0), r.1)
 
@@ -147,7 +147,7 @@ module _ (bs : List ℕ) (at : ℕ) (os : List ℕ) (es : List Sheet) where
         sheets = z.sheets;
         loads = z.loads;
         rows = z.rows;
-        good = subst (All (GoodSheet (os ++ n ∷ []))) (sym empty) tt;
+        good = subst (AllByRecursion (GoodSheet (os ++ n ∷ []))) (sym empty) tt;
         first = z.first;
       }
 

@@ -1,7 +1,7 @@
 -- What a catalogue says: its slots and its sheets, and when such a list is sound. Assumes nothing.
 use Rattle.std.specs.Prelude.{◌≡◌, ℕ, ◌+◌, ◌<◌, ◌≤◌, List, [], ◌∷◌, length, ℤ, pos, negsuc, ◌≤ℤ◌, FitsSigned, ◌≢◌, slice_index}
 use Rattle.std.specs.Int.{w32}
-use Rattle.std.specs.List.{AllByRecursion as All}
+use Rattle.std.specs.List.{AllByRecursion}
 use Rattle.catalogue.specs.declared.make.Make.{Make}
 use Rattle.catalogue.specs.declared.make.Make.TheVariants.{Fit, Bar, Load}
 
@@ -42,7 +42,7 @@ loads_in (t ∷ ts) = is_one t.make + loads_in ts
 -- no element stands twice
 abbrev pub Apart : {X : Type 0} → List X → Type 0
 Apart [] = Unit {0}
-Apart (x ∷ xs) = All (λ y. x ≢ y) xs × Apart xs
+Apart (x ∷ xs) = AllByRecursion (λ y. x ≢ y) xs × Apart xs
 
 -- a row has an option of each slot of the scope
 abbrev pub GoodRow : List ℕ → List ℕ → List ℕ → Type 0
@@ -76,20 +76,20 @@ Lacks Load t = t.rows ≡ []
 pub record GoodSheet (options : List ℕ) (t : Sheet) : Type 0 where
   pub some : 1 ≤ length t.scope
   pub few : length t.scope ≤ 8
-  pub known : All (λ s. s < length options) t.scope
+  pub known : AllByRecursion (λ s. s < length options) t.scope
   pub apart : Apart t.scope
   pub lacks : Lacks t.make t
   pub fits : FitsSigned w32 t.«cap»
-  pub rows : All (GoodRow options t.scope) t.rows
+  pub rows : AllByRecursion (GoodRow options t.scope) t.rows
   pub rows_apart : Apart t.rows
-  pub weights : All (GoodWeight options t.scope) t.weights
+  pub weights : AllByRecursion (GoodWeight options t.scope) t.weights
   pub weights_apart : Apart (places t.weights)
 
 pub record Sound (w : Content) : Type 0 where
   pub some : 1 ≤ length w.options
   pub slots : length w.options ≤ 48
-  pub sizes : All (λ n. (1 ≤ n) × (n ≤ 32)) w.options
+  pub sizes : AllByRecursion (λ n. (1 ≤ n) × (n ≤ 32)) w.options
   pub sheets : length w.sheets ≤ 64
   pub loads : loads_in w.sheets ≤ 8
   pub rows : rows_in w.sheets ≤ 4096
-  pub good : All (GoodSheet w.options) w.sheets
+  pub good : AllByRecursion (GoodSheet w.options) w.sheets

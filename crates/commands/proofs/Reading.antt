@@ -1,6 +1,6 @@
 -- How what a line writes is read. Assumes nothing.
 use Rattle.std.proofs.Common.{◌≡◌, ℕ, suc, ◌+◌, ◌-◌, ◌*◌, ◌≤◌, cond, eqb, ◌⊎◌, List, [], ◌∷◌, ◌++◌, length, take, drop, Some, None, Option, sym, refl, ap, ◌∙◌, subst, inl, inr, ⊎_elim, arith}
-use Rattle.std.specs.List.{AllByRecursion as All}
+use Rattle.std.specs.List.{AllByRecursion}
 use Rattle.std.specs.Option.{option_map, option_zip}
 use Rattle.std.specs.Int.{IsInRange}
 use Rattle.std.proofs.lemmas.List.{take-append-drop, take_at, drop_at, take_rest}
@@ -31,14 +31,14 @@ three_complete : (a b c n : ℕ) → IsInRange 48 57 a → IsInRange 48 57 b →
 three_complete a b c n ha hb hc e = grind (arith, nat_tests)
 
 -- a number
-number_sound : (ds : List ℕ) (n : ℕ) → number_in ds ≡ Some n → (1 ≤ length ds) × (length ds ≤ 3) × All (IsInRange 48 57) ds × (amount 0 ds ≡ n)
+number_sound : (ds : List ℕ) (n : ℕ) → number_in ds ≡ Some n → (1 ≤ length ds) × (length ds ≤ 3) × AllByRecursion (IsInRange 48 57) ds × (amount 0 ds ≡ n)
 number_sound [] n e = absurd (grind arith)
 number_sound (a ∷ []) n e = let k = three_sound 48 48 a n e in (omega arith, omega arith, (k.0.2, tt), omega (arith, k.1))
 number_sound (a ∷ b ∷ []) n e = let k = three_sound 48 a b n e in (omega arith, omega arith, (k.0.1, (k.0.2, tt)), omega (arith, k.1))
 number_sound (a ∷ b ∷ c ∷ []) n e = let k = three_sound a b c n e in (omega arith, omega arith, (k.0.0, (k.0.1, (k.0.2, tt))), omega (arith, k.1))
 number_sound (a ∷ b ∷ c ∷ d ∷ ds) n e = absurd (grind arith)
 
-number_complete : (ds : List ℕ) (n : ℕ) → 1 ≤ length ds → length ds ≤ 3 → All (IsInRange 48 57) ds → amount 0 ds ≡ n → number_in ds ≡ Some n
+number_complete : (ds : List ℕ) (n : ℕ) → 1 ≤ length ds → length ds ≤ 3 → AllByRecursion (IsInRange 48 57) ds → amount 0 ds ≡ n → number_in ds ≡ Some n
 number_complete [] n some few each e = absurd (omega arith)
 number_complete (a ∷ []) n some few each e = three_complete 48 48 a n (omega arith, omega arith) (omega arith, omega arith) each.0 (omega arith)
 number_complete (a ∷ b ∷ []) n some few each e = three_complete 48 a b n (omega arith, omega arith) each.0 each.1.0 (omega arith)
@@ -69,7 +69,7 @@ two_sound bs s o e =
     (sym (take-append-drop (second_at bs) bs), one_sound _ s k.0, one_sound _ o k.1)
 
 -- no digit is a space
-ahead_digits : (ds es : List ℕ) → All (IsInRange 48 57) ds → ahead 32 (ds ++ 32 ∷ es) ≡ length ds
+ahead_digits : (ds es : List ℕ) → AllByRecursion (IsInRange 48 57) ds → ahead 32 (ds ++ 32 ∷ es) ≡ length ds
 ahead_digits [] es each = refl
 ahead_digits (d ∷ ds) es each = let more = ahead_digits ds es each.1 in let digit = each.0 in grind (arith, nat_tests)
 

@@ -1,6 +1,6 @@
 -- When a line is the writing of a call. Assumes nothing.
 use Rattle.std.specs.Prelude.{◌≡◌, ℕ, ◌+◌, ◌-◌, ◌*◌, ◌≤◌, List, [], ◌∷◌, ◌++◌, length, Some, None, codes, Option}
-use Rattle.std.specs.List.{AllByRecursion as All}
+use Rattle.std.specs.List.{AllByRecursion}
 use Rattle.std.specs.Int.{IsInRange}
 use Rattle.subject.specs.declared.call.Call.{Call}
 use Rattle.subject.specs.declared.call.Call.TheVariants.{Try, Strike, Back, Look, Begin, Next, End}
@@ -16,7 +16,7 @@ pub record Field (n : ℕ) (bs : List ℕ) : Type 0 where
   pub spaced : bs ≡ 32 ∷ digits
   pub some : 1 ≤ length digits
   pub few : length digits ≤ 3
-  pub each : All (IsInRange 48 57) digits
+  pub each : AllByRecursion (IsInRange 48 57) digits
   pub value : amount 0 digits ≡ n
 
 -- the letter of a call, and then its numbers

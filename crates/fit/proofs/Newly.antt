@@ -1,7 +1,7 @@
 -- A binder of fit sheets as it is first filled: its runs are laid, and it keeps every row. Assumes nothing.
 use Rattle.std.proofs.Common.{◌≡◌, ℕ, zero, suc, ◌+◌, ◌*◌, ◌/◌, ◌<◌, ◌≤◌, Bool, true, false, cond, ◌&&◌, ◌||◌, ltb, ◌⊎◌, List, [], ◌∷◌, map, length, get_or, replicate, Decides, sym, refl, ap, ◌∙◌, subst, inl, inr, ⊎_elim, arith}
 use lib.ListN.{get_or-replicate}
-use Rattle.std.specs.List.{AllByRecursion as All}
+use Rattle.std.specs.List.{AllByRecursion}
 use Rattle.std.proofs.lemmas.Bool.{cases_lt, false≢true, or_cases, or_left, or_right, le-ltb, cond-false, and_left}
 use Rattle.std.proofs.lemmas.Bool.Decides.{same_from_decides, Decides-like}
 use Rattle.catalogue.specs.declared.counts.Counts.{Counts}
@@ -64,7 +64,7 @@ unfolding row_count
 front v vs zero = omega arith
 front v vs (suc n) = let h = front v vs n in omega arith
 
-before_rows : (options : List ℕ) (ts : List Sheet) (views : List View) (n : ℕ) → All (GoodSheet options) ts → All (λ t. t.make ≡ Fit) ts → map showing ts ≡ shown_in views n → n ≤ length views → rows_before views n ≤ rows_in ts
+before_rows : (options : List ℕ) (ts : List Sheet) (views : List View) (n : ℕ) → AllByRecursion (GoodSheet options) ts → AllByRecursion (λ t. t.make ≡ Fit) ts → map showing ts ≡ shown_in views n → n ≤ length views → rows_before views n ≤ rows_in ts
 unfolding row_count
 before_rows options ts views zero good made e h = omega arith
 before_rows options ts [] (suc n) good made e h = absurd (omega arith)

@@ -2,7 +2,7 @@
 use Rattle.std.proofs.Common.{◌≡◌, ℕ, suc, ◌+◌, ◌<◌, ◌≤◌, true, false, List, [], ◌∷◌, length, get_or, set, ℤ, sym, refl, ap, ◌∙◌, subst, arith, get_or-set_other, get_or-set_same, below_more}
 use mathlib.Core.Logic.{∥∥₁_elim, ∥∥₁_map}
 use native.Mathlib.Bridge.{le_prop}
-use Rattle.std.specs.List.{AllByRecursion as All}
+use Rattle.std.specs.List.{AllByRecursion}
 use Rattle.std.proofs.lemmas.Bool.{false≢true}
 use Rattle.catalogue.specs.declared.make.Make.{Make}
 use Rattle.catalogue.specs.declared.make.Make.TheVariants.{Fit, Bar, Load}
@@ -22,7 +22,7 @@ same_make Bar e = absurd (false≢true e)
 same_make Load e = refl
 
 -- the entries of a good load sheet are its weights
-pub gives_sheet : (options : List ℕ) (t : Sheet) → All (λ k. k ≤ 32) options → GoodSheet options t → t.make ≡ Load → Gives (entry_bytes t) t.weights
+pub gives_sheet : (options : List ℕ) (t : Sheet) → AllByRecursion (λ k. k ≤ 32) options → GoodSheet options t → t.make ≡ Load → Gives (entry_bytes t) t.weights
 gives_sheet options t sizes g m =
     let none = rows_none options t g (ap is_load m) in
     let each = weight_at_lem options t g none no_weight in
@@ -36,7 +36,7 @@ gives_sheet options t sizes g m =
     }
 
 -- all sheets are load sheets
-loads_all : (ts : List Sheet) → All (λ t. t.make ≡ Load) ts → loads_in ts ≡ length ts
+loads_all : (ts : List Sheet) → AllByRecursion (λ t. t.make ≡ Load) ts → loads_in ts ≡ length ts
 loads_all [] a = refl
 loads_all (t ∷ ts) a = omega (arith, ap is_one a.0, loads_all ts a.1)
 

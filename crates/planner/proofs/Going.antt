@@ -10,6 +10,7 @@ use Rattle.subject.specs.Logs.{Log, calls, Refuses, Standing, walking, given, be
 use Rattle.subject.specs.Logs.{refuses, next_short, begin_done, end_done, next_plan, next_none}
 use Rattle.subject.proofs.Standing.{free_begin, free_end, free_next, stand_refused, stand_decided}
 use Rattle.boxes.specs.Boxes.{opens}
+use Rattle.binder.specs.declared.binders.Binder.{Ghosts}
 use Rattle.binder.specs.Meaning.{Binding, Noted}
 use Rattle.explore.specs.Exploring.{Exploring}
 use Rattle.explore.specs.Stacks.{height, pending, weight_of}
@@ -35,13 +36,13 @@ at_on Fresh G t u ne h = h
 at_on AtPlan G t u ne h = h
 at_on Spent G t u ne h = absurd (ne refl)
 
-module _ {B : Type 0} (meaning : B → Binding) (P : Problem) where
+module _ {B : Type 0} {bound : Ghosts B} (meaning : B → Binding) (P : Problem) where
   -- the number of slots, as the problem and the walk have it
-  pub walk_slots : (D : List Decision) (G : List Plan) (w : Walk B) → Goes meaning P D G w → length P.sizes ≡ w.planner.slots.count
+  pub walk_slots : (D : List Decision) (G : List Plan) (w : Walk B bound) → Goes meaning P D G w → length P.sizes ≡ w.planner.slots.count
   walk_slots D G w go = ap length go.sizes ∙ rw length-take (let k = w.planner.slots.few.0 in let h = w.planner.slots.few.1 in omega arith)
 
   -- A walk begins.
-  pub begun : (L : Log) (p : Planner B) (w : Walk B) (m : Binding) → w.planner.slots ≡ p.slots → w.planner.saved ≡ p.saved → w.planner.depth ≡ p.depth → w.planner.slate ≡ p.slate
+  pub begun : (L : Log) (p : Planner B bound) (w : Walk B bound) (m : Binding) → w.planner.slots ≡ p.slots → w.planner.saved ≡ p.saved → w.planner.depth ≡ p.depth → w.planner.slate ≡ p.slate
       → w.state ≡ Fresh → m ≡ meaning p.binder → Noted m (meaning w.planner.binder) → height w.stack ≡ 1 → pending w.stack 0 ≡ opens p.slate.cells
       → After meaning P L p → Walking meaning P (begins ∷ L) w
   begun L p w m es ev ed el eb em noted one first a =
@@ -66,7 +67,7 @@ module _ {B : Type 0} (meaning : B → Binding) (P : Problem) where
       }
 
   -- The exploring goes on under a walk whose planner is otherwise the same.
-  pub carried : (D : List Decision) (G H : List Plan) (w v : Walk B) → v.planner.slots ≡ w.planner.slots → v.planner.saved ≡ w.planner.saved → v.planner.depth ≡ w.planner.depth
+  pub carried : (D : List Decision) (G H : List Plan) (w v : Walk B bound) → v.planner.slots ≡ w.planner.slots → v.planner.saved ≡ w.planner.saved → v.planner.depth ≡ w.planner.depth
       → v.planner.slate ≡ w.planner.slate → (go : Goes meaning P D G w)
       → Exploring P D H (opens w.planner.slate.cells) go.from (pending v.stack) (height v.stack) (meaning v.planner.binder) → At v.state H (height v.stack) → Goes meaning P D H v
   carried D G H w v es ev ed el go s at = record {
@@ -79,7 +80,7 @@ module _ {B : Type 0} (meaning : B → Binding) (P : Problem) where
   }
 
   -- A memory that is too short is refused.
-  pub short_stays : (L : Log) (w : Walk B) (n : ℕ) (p : List ℕ) → n < w.planner.slots.count → Walking meaning P L w → Walking meaning P (nexts n p (Err ShortMemory) ∷ L) w
+  pub short_stays : (L : Log) (w : Walk B bound) (n : ℕ) (p : List ℕ) → n < w.planner.slots.count → Walking meaning P L w → Walking meaning P (nexts n p (Err ShortMemory) ∷ L) w
   short_stays L w n p h a =
       let D = a.decisions in
       let r : Refuses P D (next n) 26 = next_short (let e = walk_slots D (given L) w a.goes in omega arith) in
@@ -92,7 +93,7 @@ module _ {B : Type 0} (meaning : B → Binding) (P : Problem) where
       }
 
   -- There is no plan left.
-  pub none_given : (L : Log) (w v : Walk B) (n : ℕ) (p : List ℕ) → w.planner.slots.count ≤ n → (a : Walking meaning P L w) → NoMore P a.decisions (given L) → Goes meaning P a.decisions (given L) v
+  pub none_given : (L : Log) (w v : Walk B bound) (n : ℕ) (p : List ℕ) → w.planner.slots.count ≤ n → (a : Walking meaning P L w) → NoMore P a.decisions (given L) → Goes meaning P a.decisions (given L) v
       → Walking meaning P (nexts n p (Ok NoPlan) ∷ L) v
   none_given L w v n p h a no_more go =
       let D = a.decisions in
@@ -106,7 +107,7 @@ module _ {B : Type 0} (meaning : B → Binding) (P : Problem) where
       }
 
   -- The next plan is given.
-  pub plan_given : (L : Log) (w v : Walk B) (n : ℕ) (p : Plan) → w.planner.slots.count ≤ n → (a : Walking meaning P L w) → First P a.decisions (given L) p → Goes meaning P a.decisions (p ∷ given L) v
+  pub plan_given : (L : Log) (w v : Walk B bound) (n : ℕ) (p : Plan) → w.planner.slots.count ≤ n → (a : Walking meaning P L w) → First P a.decisions (given L) p → Goes meaning P a.decisions (p ∷ given L) v
       → Walking meaning P (nexts n p (Ok ThePlan) ∷ L) v
   plan_given L w v n p h a first go =
       let D = a.decisions in
@@ -120,7 +121,7 @@ module _ {B : Type 0} (meaning : B → Binding) (P : Problem) where
       }
 
   -- The walk ends.
-  pub ended : (L : Log) (w : Walk B) (p : Planner B) → p.slots ≡ w.planner.slots → p.saved ≡ w.planner.saved → p.depth ≡ w.planner.depth → p.slate ≡ w.planner.slate
+  pub ended : (L : Log) (w : Walk B bound) (p : Planner B bound) → p.slots ≡ w.planner.slots → p.saved ≡ w.planner.saved → p.depth ≡ w.planner.depth → p.slate ≡ w.planner.slate
       → ((D : List Decision) (G : List Plan) (m : Binding) → Exploring P D G (opens w.planner.slate.cells) m (pending w.stack) (height w.stack) (meaning w.planner.binder)
       → Returned P (opens w.planner.slate.cells) m (meaning p.binder))
       → Walking meaning P L w → After meaning P (ends ∷ L) p
@@ -146,11 +147,11 @@ module _ {B : Type 0} (meaning : B → Binding) (P : Problem) where
       }
 
 -- The walk v came from w by turns that found nothing yet.
-pub record Turning {B : Type 0} (meaning : B → Binding) (w v : Walk B) : Type 0 where
+pub record Turning {B : Type 0} {bound : Ghosts B} (meaning : B → Binding) (w v : Walk B bound) : Type 0 where
   pub slots : v.planner.slots ≡ w.planner.slots
   pub goes : (P : Problem) (D : List Decision) (G : List Plan) → Goes meaning P D G w → Goes meaning P D G v
 
-pub turning_none : {B : Type 0} (meaning : B → Binding) (w : Walk B) → Turning meaning w w
+pub turning_none : {B : Type 0} {bound : Ghosts B} (meaning : B → Binding) (w : Walk B bound) → Turning meaning w w
 turning_none meaning w = record { slots = refl; goes = λ P D G go. go }
 
 -- no box, no weight
@@ -158,7 +159,7 @@ no_weight_lem : (t u : Stack) → height t ≡ 0 → weight_of u < weight_of t �
 no_weight_lem t u e h = let z : weight_of t ≡ 0 = ap (λ n. Rattle.explore.specs.Weight.weight (pending t) n) e in omega arith
 
 -- One more turn of a walk that came from w0: it was w, its outcome was r, and it is v.
-module _ {B : Type 0} (meaning : B → Binding) (w0 w v : Walk B) (r : Outcome) (was : Turning meaning w0 w) (es : v.planner.slots ≡ w.planner.slots) (ev : v.planner.saved ≡ w.planner.saved)
+module _ {B : Type 0} {bound : Ghosts B} (meaning : B → Binding) (w0 w v : Walk B bound) (r : Outcome) (was : Turning meaning w0 w) (es : v.planner.slots ≡ w.planner.slots) (ev : v.planner.saved ≡ w.planner.saved)
     (ed : v.planner.depth ≡ w.planner.depth) (el : v.planner.slate ≡ w.planner.slate)
     (law : (P : Problem) (D : List Decision) (G : List Plan) (X : Box) (m : Binding) → length P.sizes ≡ w0.planner.slots.count
     → Exploring P D G X m (pending w.stack) (height w.stack) (meaning w.planner.binder) → Turned P D G X m r (pending v.stack) (height v.stack) (meaning v.planner.binder))
@@ -212,7 +213,7 @@ module _ {B : Type 0} (meaning : B → Binding) (w0 w v : Walk B) (r : Outcome) 
       (subst (λ s. At s (p ∷ given L) (height v.stack)) (sym state) (omega arith)))
 
 -- a spent walk stays as it is: the turn finds no box
-pub turn_spent : {B : Type 0} (meaning : B → Binding) (w0 w v : Walk B) (r : Outcome) → Turning meaning w0 w → v.planner.slots ≡ w.planner.slots → v.planner.saved ≡ w.planner.saved
+pub turn_spent : {B : Type 0} {bound : Ghosts B} (meaning : B → Binding) (w0 w v : Walk B bound) (r : Outcome) → Turning meaning w0 w → v.planner.slots ≡ w.planner.slots → v.planner.saved ≡ w.planner.saved
     → v.planner.depth ≡ w.planner.depth → v.planner.slate ≡ w.planner.slate
     → ((P : Problem) (D : List Decision) (G : List Plan) (X : Box) (m : Binding) → length P.sizes ≡ w0.planner.slots.count
     → Exploring P D G X m (pending w.stack) (height w.stack) (meaning w.planner.binder) → Turned P D G X m r (pending v.stack) (height v.stack) (meaning v.planner.binder))

@@ -1,6 +1,6 @@
 -- What opening a planner comes to. Assumes nothing.
 use Rattle.std.proofs.Common.{◌≡◌, ℕ, zero, suc, ◌+◌, ◌<◌, ◌≤◌, Bool, true, false, cond, T, eqb, ◌⊎◌, List, [], ◌∷◌, length, get_or, take, set, replicate, Some, None, Ok, Err, Option, Result, sym, refl, ap, ◌∙◌, subst, inl, inr, ⊎_elim, arith, length-set, length-take, get_or-set_other, get_or-take, get_or-set_same}
-use Rattle.std.specs.List.{slice_get, AllByRecursion as All}
+use Rattle.std.specs.List.{slice_get, AllByRecursion}
 use Rattle.std.proofs.lemmas.List.{get_or_past, same_lists, get_or_default}
 use Rattle.std.proofs.lemmas.Option.{slice_get-get_or, slice_get_past}
 use Rattle.std.proofs.lemmas.Bool.{cases_eq, cases_lt, eq-eqb, cond-true}
@@ -18,6 +18,7 @@ use Rattle.boxes.specs.Boxes as Cells
 use Rattle.boxes.specs.Boxes.{opens, Filled}
 use Rattle.boxes.proofs.Bits.{open_low}
 use Rattle.boxes.proofs.Counting.{opens_is}
+use Rattle.binder.specs.declared.binders.Binder.{Ghosts}
 use Rattle.binder.specs.Meaning.{Binding, Alike, Cleared, kept_first}
 use Rattle.settle.specs.Keeping.{Has, Keeps, Framed}
 use Rattle.settle.specs.Settled.{Settled}
@@ -89,7 +90,7 @@ pub taken_full : (bytes sizes : List ℕ) (n : ℕ) (c : Counts) → 48 ≤ n �
 taken_full bytes sizes n c h a o was =
     taken_all (slots_in bytes) sizes n (omega (arith, was.few.0, was.few.1, slots_few bytes c (held bytes c a o))) was
 
-all_at : (xs : List ℕ) (s : ℕ) → All (λ n. (1 ≤ n) × (n ≤ 32)) xs → get_or xs s 0 ≤ 32
+all_at : (xs : List ℕ) (s : ℕ) → AllByRecursion (λ n. (1 ≤ n) × (n ≤ 32)) xs → get_or xs s 0 ≤ 32
 all_at [] s a = omega arith
 all_at (x ∷ xs) zero a = a.0.1
 all_at (x ∷ xs) (suc s) a = all_at xs s a.1
@@ -161,7 +162,7 @@ module _ (m : Binding) (n : ℕ) (sizes : List ℕ) (long : length sizes ≡ n) 
 
 -- ---- opening: m0 is the binder that was passed, m the same with all marks undone
 
-pub opened_at_lem : {B : Type 0} (meaning : B → Binding) (p : Planner B) (m0 m : Binding) (sizes : List ℕ) → Cleared m0 m → Started m (meaning p.binder) (take p.slots.count p.slots.sizes) p.slate.cells
+pub opened_at_lem : {B : Type 0} {bound : Ghosts B} (meaning : B → Binding) (p : Planner B bound) (m0 m : Binding) (sizes : List ℕ) → Cleared m0 m → Started m (meaning p.binder) (take p.slots.count p.slots.sizes) p.slate.cells
     → take p.slots.count p.slots.sizes ≡ sizes → p.depth ≡ 0 → ((s : ℕ) → get_or sizes s 0 ≤ 32) → 0 < length sizes → After meaning (posed sizes m0) [] p
 opened_at_lem meaning p m0 m sizes cleared first es d small some =
     let started : Started m (meaning p.binder) sizes p.slate.cells = subst (λ x. Started m (meaning p.binder) x p.slate.cells) es first in

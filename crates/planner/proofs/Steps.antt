@@ -18,6 +18,7 @@ use Rattle.boxes.specs.Boxes as Cells
 use Rattle.boxes.specs.Boxes.{opens, Fixed, Closed}
 use Rattle.boxes.proofs.Bits.{open_same}
 use Rattle.boxes.proofs.Counting.{opens_is}
+use Rattle.binder.specs.declared.binders.Binder.{Ghosts}
 use Rattle.binder.specs.Meaning.{Binding, Alike, Noted, Undone}
 use Rattle.settle.specs.Keeping.{Has, Keeps, Framed}
 use Rattle.settle.specs.Settled.{Settled}
@@ -90,22 +91,26 @@ saved_back P (struck s o ∷ D) saved marked e h = saved_back P D saved marked e
 
 -- ---- the calls
 
-module _ {B : Type 0} (meaning : B → Binding) (P : Problem) where
+bit_open : (c : List ℕ) (s o : ℕ) → get_or c s 0 < 2 ^ 32 → Bit (get_or c s 0) o ↔ Cells.Open c s o
+unfolding Cells.Open
+bit_open c s o h = (λ b. (small_bit 32 (get_or c s 0) o h b, b), λ b. b.1)
+
+module _ {B : Type 0} {bound : Ghosts B} (meaning : B → Binding) (P : Problem) where
   -- the number of slots and their sizes, as the problem and the planner have them
-  pub slots_are : (D : List Decision) (p : Planner B) → Stands meaning P D p → length P.sizes ≡ p.slots.count
+  pub slots_are : (D : List Decision) (p : Planner B bound) → Stands meaning P D p → length P.sizes ≡ p.slots.count
   slots_are D p st = ap length st.sizes ∙ rw length-take (let k = p.slots.few.0 in let h = p.slots.few.1 in omega arith)
 
-  pub size_is : (D : List Decision) (p : Planner B) (s : ℕ) → s < p.slots.count → Stands meaning P D p → get_or P.sizes s 0 ≡ get_or p.slots.sizes s 0
+  pub size_is : (D : List Decision) (p : Planner B bound) (s : ℕ) → s < p.slots.count → Stands meaning P D p → get_or P.sizes s 0 ≡ get_or p.slots.sizes s 0
   size_is D p s h st = ap (λ l. get_or l s 0) st.sizes ∙ rw get_or-take
 
-  pub open_is : (D : List Decision) (p : Planner B) (s o : ℕ) → Stands meaning P D p → Cells.Open p.slate.cells s o ↔ Open P D s o
+  pub open_is : (D : List Decision) (p : Planner B bound) (s o : ℕ) → Stands meaning P D p → Cells.Open p.slate.cells s o ↔ Open P D s o
   open_is D p s o st = let b = opens_is p.slate.cells s o in let l = st.largest s o in (λ t. l.0 (b.1 t), λ t. b.0 (l.1 t))
 
-  pub depth_is : (D : List Decision) (p : Planner B) → Stands meaning P D p → tries D ≡ p.depth
+  pub depth_is : (D : List Decision) (p : Planner B bound) → Stands meaning P D p → tries D ≡ p.depth
   depth_is D p st = saved_tries P D p.saved _ p.depth st.saved
 
   -- A refused call leaves all as it was.
-  pub refused_stays : (L : Log) (p : Planner B) (c : Call) (n : ℕ) (a : After meaning P L p) → walking (record { call = c; answer = refused n } ∷ L) ≡ walking L → inside c ≡ mathlib.Core.Bool.false
+  pub refused_stays : (L : Log) (p : Planner B bound) (c : Call) (n : ℕ) (a : After meaning P L p) → walking (record { call = c; answer = refused n } ∷ L) ≡ walking L → inside c ≡ mathlib.Core.Bool.false
       → Refuses P a.decisions c n → After meaning P (record { call = c; answer = refused n } ∷ L) p
   refused_stays L p c n a w i r = record {
     lawful = (a.lawful, a.outside ∙ sym i, (a.decisions, a.standing, refuses r));
@@ -116,7 +121,7 @@ module _ {B : Type 0} (meaning : B → Binding) (P : Problem) where
   }
 
   -- why an option cannot be had, in the words of the problem
-  pub shut_try : (L : Log) (p : Planner B) (s o : ℕ) (e : Refusal) (a : After meaning P L p) → Shut p.slots p.slate.cells s o e → Refuses P a.decisions (try s o) (number_of e)
+  pub shut_try : (L : Log) (p : Planner B bound) (s o : ℕ) (e : Refusal) (a : After meaning P L p) → Shut p.slots p.slate.cells s o e → Refuses P a.decisions (try s o) (number_of e)
   shut_try L p s o NoSlot a h = try_slot (omega (arith, h, slots_are _ p a.stands))
   shut_try L p s o NoOption a h = try_option_lem (omega (arith, h.0, slots_are _ p a.stands)) (omega (arith, h.1, size_is _ p s h.0 a.stands))
   shut_try L p s o NotOpen a h =
@@ -125,7 +130,7 @@ module _ {B : Type 0} (meaning : B → Binding) (P : Problem) where
   shut_try L p s o NoTry a h = absurd h
   shut_try L p s o ShortMemory a h = absurd h
 
-  pub shut_strike : (L : Log) (p : Planner B) (s o : ℕ) (e : Refusal) (a : After meaning P L p) → Shut p.slots p.slate.cells s o e → Refuses P a.decisions (strike s o) (number_of e)
+  pub shut_strike : (L : Log) (p : Planner B bound) (s o : ℕ) (e : Refusal) (a : After meaning P L p) → Shut p.slots p.slate.cells s o e → Refuses P a.decisions (strike s o) (number_of e)
   shut_strike L p s o NoSlot a h = strike_slot (omega (arith, h, slots_are _ p a.stands))
   shut_strike L p s o NoOption a h = strike_option (omega (arith, h.0, slots_are _ p a.stands)) (omega (arith, h.1, size_is _ p s h.0 a.stands))
   shut_strike L p s o NotOpen a h =
@@ -135,7 +140,7 @@ module _ {B : Type 0} (meaning : B → Binding) (P : Problem) where
   shut_strike L p s o ShortMemory a h = absurd h
 
   -- Any other call is decided.
-  answered : (L : Log) (p q : Planner B) (c : Call) (x : Answer) (a : After meaning P L p) → walking (record { call = c; answer = x } ∷ L) ≡ walking L → inside c ≡ mathlib.Core.Bool.false
+  answered : (L : Log) (p q : Planner B bound) (c : Call) (x : Answer) (a : After meaning P L p) → walking (record { call = c; answer = x } ∷ L) ≡ walking L → inside c ≡ mathlib.Core.Bool.false
       → Reckoned P a.decisions (given L) c x → ((n : ℕ) → Refuses P a.decisions c n → ⊥) → Stands meaning P (decided c a.decisions) q → After meaning P (record { call = c; answer = x } ∷ L) q
   answered L p q c x a w i r free st = record {
     lawful = (a.lawful, a.outside ∙ sym i, (a.decisions, a.standing, r));
@@ -146,7 +151,7 @@ module _ {B : Type 0} (meaning : B → Binding) (P : Problem) where
   }
 
   -- One more decision, and the box settled: m is the binder before, k the one after.
-  module _ (D : List Decision) (d : Decision) (p : Planner B) (st : Stands meaning P D p) (m k : Binding) (b c : List ℕ) (has : Has P m) (keeps : Keeps P (opens p.slate.cells) m.kept)
+  module _ (D : List Decision) (d : Decision) (p : Planner B bound) (st : Stands meaning P D p) (m k : Binding) (b c : List ℕ) (has : Has P m) (keeps : Keeps P (opens p.slate.cells) m.kept)
       (placed : Placed P) (cut : (t q : ℕ) → T (opens b t q) ↔ (T (opens p.slate.cells t q) × (Forbids d t q → ⊥))) (done : Settled m k p.slots.count b c) where
     less : Inside (opens b) (opens p.slate.cells)
     less t q z = ((cut t q).0 z).0
@@ -164,7 +169,7 @@ module _ {B : Type 0} (meaning : B → Binding) (P : Problem) where
     decided_keeps = done.keeps P has kept
 
   -- What strike does, where it is not refused.
-  pub struck_done : (L : Log) (p q : Planner B) (s o n : ℕ) (b : List ℕ) → q.slots ≡ p.slots → q.saved ≡ p.saved → q.depth ≡ p.depth
+  pub struck_done : (L : Log) (p q : Planner B bound) (s o n : ℕ) (b : List ℕ) → q.slots ≡ p.slots → q.saved ≡ p.saved → q.depth ≡ p.depth
       → Found p.slots p.slate.cells s o → Closed p.slate.cells b s o → Settled (meaning p.binder) (meaning q.binder) p.slots.count b q.slate.cells
       → n ≡ opened (opens q.slate.cells) → After meaning P L p → After meaning P (record { call = strike s o; answer = count n } ∷ L) q
   struck_done L p q s o n b es ev ed found shut done e a =
@@ -187,7 +192,7 @@ module _ {B : Type 0} (meaning : B → Binding) (P : Problem) where
       })
 
   -- What try does, where it is not refused: m is the binder once marked.
-  pub tried_done : (L : Log) (p q : Planner B) (s o n : ℕ) (b : List ℕ) (m : Binding) → q.slots ≡ p.slots → q.saved ≡ set p.saved p.depth p.slate → q.depth ≡ p.depth + 1
+  pub tried_done : (L : Log) (p q : Planner B bound) (s o n : ℕ) (b : List ℕ) (m : Binding) → q.slots ≡ p.slots → q.saved ≡ set p.saved p.depth p.slate → q.depth ≡ p.depth + 1
       → p.depth < 16 → Found p.slots p.slate.cells s o → Fixed p.slate.cells b s o → Noted (meaning p.binder) m
       → Settled m (meaning q.binder) p.slots.count b q.slate.cells → n ≡ opened (opens q.slate.cells)
       → After meaning P L p → After meaning P (record { call = try s o; answer = count n } ∷ L) q
@@ -225,7 +230,7 @@ module _ {B : Type 0} (meaning : B → Binding) (P : Problem) where
       })
 
   -- What back does, where it is not refused.
-  pub backed : (L : Log) (p q : Planner B) (n e : ℕ) → q.slots ≡ p.slots → q.saved ≡ p.saved → q.depth ≡ e → p.depth ≡ suc e → q.slate.cells ≡ cells_at p.saved e
+  pub backed : (L : Log) (p q : Planner B bound) (n e : ℕ) → q.slots ≡ p.slots → q.saved ≡ p.saved → q.depth ≡ e → p.depth ≡ suc e → q.slate.cells ≡ cells_at p.saved e
       → Undone (meaning p.binder) (meaning q.binder) → n ≡ opened (opens q.slate.cells)
       → After meaning P L p → After meaning P (record { call = back; answer = count n } ∷ L) q
   backed L p q n e es ev ed pd ec undid c a =
@@ -252,11 +257,7 @@ module _ {B : Type 0} (meaning : B → Binding) (P : Problem) where
       })
 
   -- What look answers, where it is not refused.
-  bit_open : (c : List ℕ) (s o : ℕ) → get_or c s 0 < 2 ^ 32 → Bit (get_or c s 0) o ↔ Cells.Open c s o
-  unfolding Cells.Open
-  bit_open c s o h = (λ b. (small_bit 32 (get_or c s 0) o h b, b), λ b. b.1)
-
-  pub looked : (L : Log) (p : Planner B) (s : ℕ) → s < p.slots.count → get_or p.slate.cells s 0 < 2 ^ 32 → After meaning P L p
+  pub looked : (L : Log) (p : Planner B bound) (s : ℕ) → s < p.slots.count → get_or p.slate.cells s 0 < 2 ^ 32 → After meaning P L p
       → After meaning P (record { call = look s; answer = bits (get_or p.slate.cells s 0) } ∷ L) p
   looked L p s h f a =
       let D = a.decisions in

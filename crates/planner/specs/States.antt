@@ -9,6 +9,7 @@ use Rattle.subject.specs.Logs.{Log, calls, Standing, walking}
 use Rattle.subject.specs.Law.{Lawful}
 use Rattle.boxes.specs.declared.OptionBox.{OptionBox}
 use Rattle.boxes.specs.Boxes.{Open, opens}
+use Rattle.binder.specs.declared.binders.Binder.{Ghosts}
 use Rattle.binder.specs.Meaning.{Binding}
 use Rattle.settle.specs.Keeping.{Has, Keeps}
 use Rattle.planner.specs.declared.state.Slots.{Slots}
@@ -30,7 +31,7 @@ Shut w c s o NoTry = ⊥
 Shut w c s o ShortMemory = ⊥
 
 -- the answer is how many options the box opens; a refusal leaves the planner as it was
-abbrev pub Counted : {B : Type 0} → Result ℕ Refusal → Planner B → Planner B → Type 0
+abbrev pub Counted : {B : Type 0} {bound : Ghosts B} → Result ℕ Refusal → Planner B bound → Planner B bound → Type 0
 Counted (Ok n) before after = n ≡ opened (opens after.slate.cells)
 Counted (Err e) before after = after ≡ before
 
@@ -49,7 +50,7 @@ Saved P (tried s o ∷ D) saved marked d =
 Saved P (struck s o ∷ D) saved marked d = Saved P D saved marked d
 
 -- The planner is as the decisions say. What its binder means is given by `meaning`.
-pub record Stands {B : Type 0} (meaning : B → Binding) (P : Problem) (D : List Decision) (p : Planner B) : Type 0 where
+pub record Stands {B : Type 0} {bound : Ghosts B} (meaning : B → Binding) (P : Problem) (D : List Decision) (p : Planner B bound) : Type 0 where
   pub sizes : P.sizes ≡ take p.slots.count p.slots.sizes
   pub some : 0 < length P.sizes
   pub has : Has P (meaning p.binder)
@@ -60,7 +61,7 @@ pub record Stands {B : Type 0} (meaning : B → Binding) (P : Problem) (D : List
 
 -- The planner after the calls of a log, outside a walk: the log is lawful, and the planner is as the decisions say that
 -- its calls come to. So its box is the largest supported box within the decisions standing.
-pub record After {B : Type 0} (meaning : B → Binding) (P : Problem) (L : Log) (p : Planner B) : Type 0 where
+pub record After {B : Type 0} {bound : Ghosts B} (meaning : B → Binding) (P : Problem) (L : Log) (p : Planner B bound) : Type 0 where
   pub lawful : Lawful P L
   pub outside : walking L ≡ false
   pub decisions : List Decision

@@ -8,6 +8,7 @@ use Rattle.subject.specs.Plans.{Plan}
 use Rattle.subject.specs.Logs.{Log, calls, Standing, walking, given}
 use Rattle.subject.specs.Law.{Lawful}
 use Rattle.boxes.specs.Boxes.{opens}
+use Rattle.binder.specs.declared.binders.Binder.{Ghosts}
 use Rattle.binder.specs.Meaning.{Binding}
 use Rattle.explore.specs.Exploring.{Exploring}
 use Rattle.explore.specs.Stacks.{height, pending}
@@ -24,7 +25,7 @@ At AtPlan given top = 0 < length given
 At Spent given top = top ≡ 0
 
 -- The walk has given the plans G since it began on a planner as the decisions D say, whose binder meant `from` then.
-pub record Goes {B : Type 0} (meaning : B → Binding) (P : Problem) (D : List Decision) (G : List Plan) (w : Walk B) : Type 0 where
+pub record Goes {B : Type 0} {bound : Ghosts B} (meaning : B → Binding) (P : Problem) (D : List Decision) (G : List Plan) (w : Walk B bound) : Type 0 where
   pub sizes : P.sizes ≡ take w.planner.slots.count w.planner.slots.sizes
   pub from : Binding
   pub marks : from.marks ≡ w.planner.depth
@@ -33,7 +34,7 @@ pub record Goes {B : Type 0} (meaning : B → Binding) (P : Problem) (D : List D
   pub at : At w.state G (height w.stack)
 
 -- The walk after the calls of a log: the log is lawful, and the walk is as its calls and plans say.
-pub record Walking {B : Type 0} (meaning : B → Binding) (P : Problem) (L : Log) (w : Walk B) : Type 0 where
+pub record Walking {B : Type 0} {bound : Ghosts B} (meaning : B → Binding) (P : Problem) (L : Log) (w : Walk B bound) : Type 0 where
   pub lawful : Lawful P L
   pub within : walking L ≡ true
   pub decisions : List Decision
@@ -41,6 +42,6 @@ pub record Walking {B : Type 0} (meaning : B → Binding) (P : Problem) (L : Log
   pub goes : Goes meaning P decisions (given L) w
 
 -- next refuses exactly a plan memory that is shorter than the number of slots, and then leaves the walk as it was
-abbrev pub Refused : {B : Type 0} → Result Step Refusal → ℕ → Walk B → Walk B → Type 0
+abbrev pub Refused : {B : Type 0} {bound : Ghosts B} → Result Step Refusal → ℕ → Walk B bound → Walk B bound → Type 0
 Refused (Ok x) n before after = before.planner.slots.count ≤ n
 Refused (Err e) n before after = (e ≡ ShortMemory) × (n < before.planner.slots.count) × (after ≡ before)

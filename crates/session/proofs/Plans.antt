@@ -5,6 +5,7 @@ use Rattle.subject.specs.declared.refusal.Refusal.{Refusal}
 use Rattle.subject.specs.declared.answer.Answer.TheVariants.{Plan as GivePlan, NoPlan as GiveNone}
 use Rattle.subject.specs.Problem.{Problem}
 use Rattle.subject.specs.Logs.{Log, next, plan}
+use Rattle.binder.specs.declared.binders.Binder.{Ghosts}
 use Rattle.binder.specs.Meaning.{Binding}
 use Rattle.planner.specs.Answers.{nexts, written}
 use Rattle.planner.specs.Walks.{Walking}
@@ -21,7 +22,7 @@ plan_front n x zeros memory e h k =
       (let a = length-append x (drop n zeros) in let b = length-drop n zeros in let c = ap length e in omega (arith, long)),
     )
 
-module _ {B : Type 0} (meaning : B → Binding) (w v : Walk B) (m m' : List ℕ) (count : ℕ) (x : Step)
+module _ {B : Type 0} {bound : Ghosts B} (meaning : B → Binding) (w v : Walk B bound) (m m' : List ℕ) (count : ℕ) (x : Step)
     (law : (P : Problem) (L : Log) → Walking meaning P L w → Walking meaning P (nexts (length m) (take count m') (Ok x) ∷ L) v) (wrote : m' ≡ written count (Ok x) m m') where
   pub stepped_plan : (n : ℕ) (p : List ℕ) → x ≡ Plan → n ≡ count → take n p ≡ take n m' → Stepped meaning (GivePlan p n) w v m m'
   stepped_plan n p e same front =

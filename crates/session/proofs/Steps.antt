@@ -6,6 +6,7 @@ use Rattle.subject.specs.declared.answer.Reply.{Reply}
 use Rattle.subject.specs.declared.answer.Reply.TheVariants.{Given, NotPossible}
 use Rattle.subject.specs.Problem.{Problem}
 use Rattle.subject.specs.Logs.{Log}
+use Rattle.binder.specs.declared.binders.Binder.{Ghosts}
 use Rattle.binder.specs.Meaning.{Binding}
 use Rattle.session.specs.Runs.{entered, logged, Fitting, overlaid, remembered}
 use Rattle.session.specs.Law.{Held}
@@ -27,8 +28,8 @@ remembered_same (suc k) rs rs' m e =
     let rest = remembered_same k rs rs' m (λ i h. e i (omega arith)) in
     λ j. overlaid (here j) (rest j)
 
-module _ {B : Type 0} (meaning : B → Binding) (lines : List (Option Call)) (count : ℕ) where
-  pub running_none : (from : ℕ) (rs : List Reply) (s : Session B) (m : List ℕ) → from ≤ count → Running meaning lines from from count rs rs s s m m
+module _ {B : Type 0} {bound : Ghosts B} (meaning : B → Binding) (lines : List (Option Call)) (count : ℕ) where
+  pub running_none : (from : ℕ) (rs : List Reply) (s : Session B bound) (m : List ℕ) → from ≤ count → Running meaning lines from from count rs rs s s m m
   running_none from rs s m h = record {
     onward = (omega arith, h);
     long = (refl, refl);
@@ -40,7 +41,7 @@ module _ {B : Type 0} (meaning : B → Binding) (lines : List (Option Call)) (co
   }
 
   -- one line more
-  module _ (from at : ℕ) (before rs : List Reply) (s t u : Session B) (m0 m m' : List ℕ) (r : Reply) (was : Running meaning lines from at count before rs s t m0 m) (lt : at < count) (room : at < length rs)
+  module _ (from at : ℕ) (before rs : List Reply) (s t u : Session B bound) (m0 m m' : List ℕ) (r : Reply) (was : Running meaning lines from at count before rs s t m0 m) (lt : at < count) (room : at < length rs)
       (mem : m' ≡ overlaid r m) (long : length m' ≡ length m)
       (step : (P : Problem) (L : Log) → Held meaning P L t → Held meaning P (entered (length m0) (get_or lines at None) r L) u)
       (fits : (P : Problem) (L : Log) → Held meaning P L t → Fitting (get_or lines at None) r L) where
@@ -76,7 +77,7 @@ module _ {B : Type 0} (meaning : B → Binding) (lines : List (Option Call)) (co
     }
 
   -- two runs in a row
-  pub running_trans : (a b c : ℕ) (x y z : List Reply) (s t u : Session B) (l m n : List ℕ) → Running meaning lines a b count x y s t l m → Running meaning lines b c count y z t u m n
+  pub running_trans : (a b c : ℕ) (x y z : List Reply) (s t u : Session B bound) (l m n : List ℕ) → Running meaning lines a b count x y s t l m → Running meaning lines b c count y z t u m n
       → Running meaning lines a c count x z s u l n
   running_trans a b c x y z s t u l m n one two = record {
     onward = (omega (arith, one.onward.0, two.onward.0), two.onward.1);
@@ -96,11 +97,11 @@ module _ {B : Type 0} (meaning : B → Binding) (lines : List (Option Call)) (co
       mid P L h = subst (λ k. Held meaning P (logged k lines y b L) t) (sym one.long.1) (one.held P L h)
 
   -- the last line is reached
-  pub running_end : (from at : ℕ) (x y : List Reply) (s t : Session B) (m m' : List ℕ) → count ≤ at → Running meaning lines from at count x y s t m m' → Running meaning lines from count count x y s t m m'
+  pub running_end : (from at : ℕ) (x y : List Reply) (s t : Session B bound) (m m' : List ℕ) → count ≤ at → Running meaning lines from at count x y s t m m' → Running meaning lines from count count x y s t m m'
   running_end from at x y s t m m' h run =
       let e : at ≡ count = omega (arith, run.onward.1) in
       subst (λ k. Running meaning lines from k count x y s t m m') e run
 
   -- the same session under another name
-  pub running_into : (from at : ℕ) (x y : List Reply) (s t u : Session B) (m m' : List ℕ) → t ≡ u → Running meaning lines from at count x y s t m m' → Running meaning lines from at count x y s u m m'
+  pub running_into : (from at : ℕ) (x y : List Reply) (s t u : Session B bound) (m m' : List ℕ) → t ≡ u → Running meaning lines from at count x y s t m m' → Running meaning lines from at count x y s u m m'
   running_into from at x y s t u m m' e run = subst (λ k. Running meaning lines from at count x y s k m m') e run

@@ -9,6 +9,7 @@ use Rattle.subject.specs.Decisions.{Decision, Agree, Largest}
 use Rattle.subject.specs.Logs.{Log, calls, Standing, walking}
 use Rattle.subject.specs.Law.{Lawful, Looking}
 use Rattle.boxes.specs.Boxes.{opens}
+use Rattle.binder.specs.declared.binders.Binder.{Ghosts}
 use Rattle.binder.specs.Meaning.{Binding}
 use Rattle.planner.specs.States.{After}
 use Rattle.planner.specs.Walks.{Walking}
@@ -17,17 +18,17 @@ use Rattle.session.specs.declared.state.Session.{Session}
 use Rattle.session.specs.declared.state.Session.TheVariants.{Outside, Inside}
 
 -- the session is where the calls of the log have led
-abbrev pub Held : {B : Type 0} → (B → Binding) → Problem → Log → Session B → Type 0
+abbrev pub Held : {B : Type 0} {bound : Ghosts B} → (B → Binding) → Problem → Log → Session B bound → Type 0
 Held meaning P L (Outside p) = After meaning P L p
 Held meaning P L (Inside w) = Walking meaning P L w
 
 -- the planner's box
-abbrev pub box_of : {B : Type 0} → Session B → Box
+abbrev pub box_of : {B : Type 0} {bound : Ghosts B} → Session B bound → Box
 box_of (Outside p) = opens p.slate.cells
 box_of (Inside w) = opens w.planner.slate.cells
 
 -- The law of the log L of a planner of the problem P that is at s now.
-pub record Law {B : Type 0} (P : Problem) (L : Log) (s : Session B) : Type 0 where
+pub record Law {B : Type 0} {bound : Ghosts B} (P : Problem) (L : Log) (s : Session B bound) : Type 0 where
   -- Every answer is as reckoned from slots, scopes, rules and the calls before it: whether a call is refused and by which
   -- number, what try, strike, back and look answer, and which plan next gives or that there is none left.
   pub lawful : Lawful P L
@@ -41,7 +42,7 @@ pub record Law {B : Type 0} (P : Problem) (L : Log) (s : Session B) : Type 0 whe
 
 -- The first k lines were replied to, with a plan memory of n bytes: the log that they come to has led to s and obeys the
 -- law, and a line was not possible exactly where it says so.
-pub record Ran {B : Type 0} (meaning : B → Binding) (P : Problem) (L : Log) (lines : List (Option Call)) (replies : List Reply) (k n : ℕ) (s : Session B) : Type 0 where
+pub record Ran {B : Type 0} {bound : Ghosts B} (meaning : B → Binding) (P : Problem) (L : Log) (lines : List (Option Call)) (replies : List Reply) (k n : ℕ) (s : Session B bound) : Type 0 where
   pub held : Held meaning P (logged n lines replies k L) s
   pub law : Law P (logged n lines replies k L) s
   pub fitting : (i : ℕ) → i < k → Fitting (slice_index_or lines i None) (slice_index_or replies i NotPossible) (logged n lines replies i L)

@@ -12,6 +12,7 @@ use Rattle.subject.specs.Refusals.{number_of}
 use Rattle.subject.specs.Logs as Logs
 use Rattle.subject.specs.Logs.{Log, walking}
 use Rattle.subject.specs.Law.{inside}
+use Rattle.binder.specs.declared.binders.Binder.{Ghosts}
 use Rattle.binder.specs.Meaning.{Binding}
 use Rattle.planner.specs.States.{After}
 use Rattle.planner.specs.Walks.{Walking}
@@ -82,24 +83,24 @@ count_reply (Ok n) = Given (Count n)
 count_reply (Err e) = Given (Refused e)
 
 -- a line outside walks that is no begin was replied to
-pub record Replied {B : Type 0} (meaning : B → Binding) (line : Option Call) (r : Reply) (p q : Planner B) : Type 0 where
+pub record Replied {B : Type 0} {bound : Ghosts B} (meaning : B → Binding) (line : Option Call) (r : Reply) (p q : Planner B bound) : Type 0 where
   pub memory : (m : List ℕ) → m ≡ overlaid r m
   pub enters : (P : Problem) (L : Log) (n : ℕ) → After meaning P L p → After meaning P (entered n line r L) q
   pub fits : (P : Problem) (L : Log) → After meaning P L p → Fitting line r L
 
-abbrev pub Asked : {B : Type 0} → (B → Binding) → Option Call → Reply → Planner B → Planner B → Type 0
+abbrev pub Asked : {B : Type 0} {bound : Ghosts B} → (B → Binding) → Option Call → Reply → Planner B bound → Planner B bound → Type 0
 Asked meaning line r p q = (line ≢ Some Begin) → Replied meaning line r p q
 
 -- next was made
-pub record Stepped {B : Type 0} (meaning : B → Binding) (a : Answer) (w v : Walk B) (m m' : List ℕ) : Type 0 where
+pub record Stepped {B : Type 0} {bound : Ghosts B} (meaning : B → Binding) (a : Answer) (w v : Walk B bound) (m m' : List ℕ) : Type 0 where
   pub memory : m' ≡ overlaid (Given a) m
   pub walks : (P : Problem) (L : Log) → Walking meaning P L w → Walking meaning P (record { call = Logs.next (length m); answer = answer_of a } ∷ L) v
 
 -- a line in a walk that is no end was replied to
-pub record Walks {B : Type 0} (meaning : B → Binding) (line : Option Call) (r : Reply) (w v : Walk B) (m m' : List ℕ) : Type 0 where
+pub record Walks {B : Type 0} {bound : Ghosts B} (meaning : B → Binding) (line : Option Call) (r : Reply) (w v : Walk B bound) (m m' : List ℕ) : Type 0 where
   pub memory : m' ≡ overlaid r m
   pub enters : (P : Problem) (L : Log) → Walking meaning P L w → Walking meaning P (entered (length m) line r L) v
   pub fits : (P : Problem) (L : Log) → Walking meaning P L w → Fitting line r L
 
-abbrev pub Walked : {B : Type 0} → (B → Binding) → Option Call → Reply → Walk B → Walk B → List ℕ → List ℕ → Type 0
+abbrev pub Walked : {B : Type 0} {bound : Ghosts B} → (B → Binding) → Option Call → Reply → Walk B bound → Walk B bound → List ℕ → List ℕ → Type 0
 Walked meaning line r w v m m' = (line ≢ Some End) → Walks meaning line r w v m m'

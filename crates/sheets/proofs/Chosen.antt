@@ -1,6 +1,6 @@
 -- That the sheets of a make, taken from a checked catalogue, are sound ones. Assumes nothing.
 use Rattle.std.proofs.Common.{◌≡◌, ℕ, zero, suc, ◌+◌, ◌<◌, ◌≤◌, Bool, true, false, cond, List, [], ◌∷◌, ◌++◌, map, length, get_or, take, set, pos, Some, None, Ok, Err, filter, Result, sym, refl, ap, ◌∙◌, subst, arith}
-use Rattle.std.specs.List.{slice_get, AllByRecursion as All}
+use Rattle.std.specs.List.{slice_get, AllByRecursion}
 use Rattle.std.proofs.ByRecursion.{all_kept_by, kept_by_passes, All-weaker}
 use Rattle.std.proofs.lemmas.List.{length-map, length-set, take_all, take_more, take_more_set, map_push}
 use Rattle.std.proofs.lemmas.Option.{slice_get-get_or}
@@ -37,12 +37,12 @@ module _ (m : Make) where
   kept_of [] = refl
   kept_of (t ∷ ts) = ap (λ l. cond (ours t) (t ∷ l) l) (kept_of ts)
 
-  all_of : (P : Sheet → Type 0) (ts : List Sheet) → All P ts → All P (of_make m ts)
-  all_of P ts a = subst (All P) (kept_of ts) (all_kept_by ours P ts a)
+  all_of : (P : Sheet → Type 0) (ts : List Sheet) → AllByRecursion P ts → AllByRecursion P (of_make m ts)
+  all_of P ts a = subst (AllByRecursion P) (kept_of ts) (all_kept_by ours P ts a)
 
-  made_of : (ts : List Sheet) → All (λ t. t.make ≡ m) (of_make m ts)
+  made_of : (ts : List Sheet) → AllByRecursion (λ t. t.make ≡ m) (of_make m ts)
   made_of ts =
-      subst (All (λ t. t.make ≡ m)) (kept_of ts)
+      subst (AllByRecursion (λ t. t.make ≡ m)) (kept_of ts)
       (All-weaker (λ t. ours t ≡ true) (λ t. t.make ≡ m) (λ t e. same_make m t.make e) (filter ours ts) (kept_by_passes ours ts))
 
   rows_of : (ts : List Sheet) → rows_in (of_make m ts) ≤ rows_in ts

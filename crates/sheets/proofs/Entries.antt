@@ -1,6 +1,6 @@
 -- How the rows and weights of a sound sheet are read from its bytes. Assumes nothing.
 use Rattle.std.proofs.Common.{◌≡◌, ℕ, zero, suc, ◌+◌, ◌*◌, ◌/◌, ◌%◌, ◌<◌, ◌≤◌, true, false, List, [], ◌∷◌, ◌++◌, length, get_or, take, drop, ℤ, pos, negsuc, ◌≤ℤ◌, sym, refl, ap, ◌∙◌, ⊎_elim, append_assoc, append-nil, zero-add, arith, w16, SFits, to_z, of_z}
-use Rattle.std.specs.List.{flat_map, AllByRecursion as All}
+use Rattle.std.specs.List.{flat_map, AllByRecursion}
 use Rattle.std.proofs.ByRecursion.{All-get_or, All-weaker}
 use Rattle.std.proofs.lemmas.List.{length-append, take_at, drop_at, drop-drop, get_or_past, get_or_append_left, get_or-append-add}
 use Rattle.std.proofs.lemmas.Int.{ints, to_z-of_z}
@@ -35,12 +35,12 @@ module _ (k : ℕ) (few : k ≤ 8) where
   long_row : (r : List ℕ) → length r ≡ k → length (row_bytes r) ≡ 9
   long_row r e = ap suc (length_padded r (omega arith))
 
-  long_rows : (rs : List (List ℕ)) → All (λ r. length r ≡ k) rs → length (flat_map row_bytes rs) ≡ 9 * length rs
+  long_rows : (rs : List (List ℕ)) → AllByRecursion (λ r. length r ≡ k) rs → length (flat_map row_bytes rs) ≡ 9 * length rs
   long_rows [] a = refl
   long_rows (r ∷ rs) a =
       length-append (row_bytes r) (flat_map row_bytes rs) ∙ omega (arith, long_row r a.0, long_rows rs a.1)
 
-  row_among : (rs : List (List ℕ)) (rest : List ℕ) → All (λ r. length r ≡ k) rs → (i : ℕ) → i < length rs → row_at (flat_map row_bytes rs ++ rest) k i ≡ get_or rs i []
+  row_among : (rs : List (List ℕ)) (rest : List ℕ) → AllByRecursion (λ r. length r ≡ k) rs → (i : ℕ) → i < length rs → row_at (flat_map row_bytes rs ++ rest) k i ≡ get_or rs i []
   row_among [] rest a i h = absurd (omega arith)
   row_among (r ∷ rs) rest a zero h = simp append_assoc (take_at r _ k a.0)
   row_among (r ∷ rs) rest a (suc i) h =
@@ -58,13 +58,13 @@ known_option options (s ∷ ss) (x ∷ xs) g zero h = g.0
 known_option options (s ∷ ss) (x ∷ xs) g (suc p) h = known_option options ss xs g.1 p (omega arith)
 
 -- no slot has more than 32 options
-pub few_options : (options : List ℕ) → All (λ k. k ≤ 32) options → (s : ℕ) → get_or options s 0 ≤ 32
+pub few_options : (options : List ℕ) → AllByRecursion (λ k. k ≤ 32) options → (s : ℕ) → get_or options s 0 ≤ 32
 few_options options a s =
     ⊎_elim (λ l. All-get_or (λ k. k ≤ 32) options s 0 l a) (λ h. omega (arith, get_or_past options s 0 h)) (cases_lt s (length options))
 
 module _ (options : List ℕ) (t : Sheet) (g : GoodSheet options t) where
   -- every row has an option for each slot of the scope
-  pub rows_long : All (λ r. length r ≡ length t.scope) t.rows
+  pub rows_long : AllByRecursion (λ r. length r ≡ length t.scope) t.rows
   rows_long = All-weaker (GoodRow options t.scope) (λ r. length r ≡ length t.scope) (length_row options t.scope) t.rows g.rows
 
   pub row_long : (r : ℕ) → r < length t.rows → length (get_or t.rows r []) ≡ length t.scope
@@ -74,7 +74,7 @@ module _ (options : List ℕ) (t : Sheet) (g : GoodSheet options t) where
   row_known r p h l = known_option options t.scope (get_or t.rows r []) (All-get_or (GoodRow options t.scope) t.rows r [] h g.rows) p l
 
   -- no option is above 31, wherever one is asked for
-  pub row_low : All (λ k. k ≤ 32) options → (r p : ℕ) → get_or (get_or t.rows r []) p 0 < 32
+  pub row_low : AllByRecursion (λ k. k ≤ 32) options → (r p : ℕ) → get_or (get_or t.rows r []) p 0 < 32
   row_low few r p =
       ⊎_elim
       (λ h. ⊎_elim

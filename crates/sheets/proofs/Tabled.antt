@@ -1,6 +1,6 @@
 -- What stands at each place of a table of sheets. Assumes nothing.
 use Rattle.std.proofs.Common.{◌≡◌, ℕ, zero, suc, ◌<◌, ◌≤◌, false, List, [], ◌∷◌, map, length, get_or, take, sym, refl, ap, ◌∙◌, arith}
-use Rattle.std.specs.List.{AllByRecursion as All}
+use Rattle.std.specs.List.{AllByRecursion}
 use Rattle.std.proofs.lemmas.List.{length-map, length-take-le}
 use Rattle.catalogue.specs.declared.make.Make.{Make}
 use Rattle.catalogue.specs.declared.view.View.{View}
@@ -37,7 +37,7 @@ behind : (options : List ℕ) (m : Make) (t : Sheet) (ts : List Sheet) (v : View
 behind options m t ts v vs s a =
     record { sheet = a.sheet; make = a.make; good = a.good; shows = a.shows; scope = a.scope; admits = a.admits }
 
-among : (options : List ℕ) (m : Make) (ts : List Sheet) (views : List View) (n s : ℕ) → All (GoodSheet options) ts → All (λ t. t.make ≡ m) ts → map showing ts ≡ shown_in views n → s < n → n ≤ length views → At options m ts views s
+among : (options : List ℕ) (m : Make) (ts : List Sheet) (views : List View) (n s : ℕ) → AllByRecursion (GoodSheet options) ts → AllByRecursion (λ t. t.make ≡ m) ts → map showing ts ≡ shown_in views n → s < n → n ≤ length views → At options m ts views s
 among options m [] views n s good made e l h = absurd (omega (arith, long_as [] views n e h))
 among options m (t ∷ ts) [] n s good made e l h = absurd (omega arith)
 among options m (t ∷ ts) (v ∷ vs) zero s good made e l h = absurd (omega arith)

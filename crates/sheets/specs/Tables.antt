@@ -1,6 +1,6 @@
 -- What a table of sheets holds, and how its rows are read. Assumes nothing.
 use Rattle.std.specs.Prelude.{◌≡◌, ℕ, zero, suc, ◌+◌, ◌*◌, ◌≤◌, List, [], ◌∷◌, map, length, take, drop, pos, Ok, Err, Result}
-use Rattle.std.specs.List.{AllByRecursion as All}
+use Rattle.std.specs.List.{AllByRecursion}
 use Rattle.catalogue.specs.declared.fault.Fault.{Fault}
 use Rattle.catalogue.specs.declared.make.Make.{Make}
 use Rattle.catalogue.specs.declared.view.View.{View}
@@ -22,9 +22,9 @@ pub record Taken (m : Make) (views : List View) (n : ℕ) : Type 0 where
   pub options : List ℕ
   pub sheets : List Sheet
   pub slots : length options ≤ 48
-  pub sizes : All (λ k. k ≤ 32) options
-  pub good : All (GoodSheet options) sheets
-  pub one_make : All (λ t. t.make ≡ m) sheets
+  pub sizes : AllByRecursion (λ k. k ≤ 32) options
+  pub good : AllByRecursion (GoodSheet options) sheets
+  pub one_make : AllByRecursion (λ t. t.make ≡ m) sheets
   pub rows : rows_in sheets ≤ 4096
   pub loads : loads_in sheets ≤ 8
   pub is : map showing sheets ≡ shown_in views n
