@@ -1,4 +1,6 @@
 // The program: reads the file `catalogue` in the current folder, and says what it holds or what is wrong with it.
+#![tactic(auto)]
+
 ghost use Rattle.std.specs.Prelude.{◌≡◌, ◌≤◌, IfOk, vec_len};
 
 use catalogue::checked::Catalogue;

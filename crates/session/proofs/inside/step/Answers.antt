@@ -5,8 +5,8 @@ use Rattle.session.proofs.inside.step.Goals as goal
 pub returns-in-Plan : goal.returns-in-Plan
 returns-in-Plan g c =
     let done = c.in-Ok.ensures in
-    stepped_plan _ _ _ _ _ c.args.walk.now.planner.slots.count c.in-Ok.step done.law done.wrote c.slots-count.result c.plan-in.result c.in-Plan.is
-    (c.slots-count.ensures ∙ ap (λ w. w.count) done.slots) c.plan-in.ensures.0
+    stepped_plan _ _ _ _ _ c.args.walk.now.planner.slots.count c.in-Ok.step done.law done.wrote c.slots-count.result c.plan_in.result c.in-Plan.is
+    (c.slots-count.ensures ∙ ap (λ w. w.count) done.slots) c.plan_in.ensures.0
 
 pub returns-in-NoPlan : goal.returns-in-NoPlan
 returns-in-NoPlan g c =
