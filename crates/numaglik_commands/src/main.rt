@@ -1,0 +1,144 @@
+// The program: reads the file `catalogue` in the current folder and says what it holds or what is wrong with it;
+// then answers one command after another from standard input.
+#![tactic(auto)]
+
+ghost use Rattle.std.specs.Prelude.{◌≡◌, ◌+◌, ◌≤◌, length, IfOk, vec_len};
+
+use binder::binders::Binder;
+use catalogue::checked::Catalogue;
+use checker::check;
+use commands::lines::{Lines, whole_lines};
+use commands::parse::parse;
+use planner::state::Planner;
+use session::state::Session;
+use std::fs::File;
+use std::io;
+use std::io::{ErrorKind, Read};
+use subject::answer::Reply;
+use subject::call::Call;
+
+// How much is read at most, of the file and of standard input. An accepted catalogue is shorter.
+const LIMIT: usize = 65536;
+
+// Fills `to` from its front as far as the input goes, and answers how many bytes came.
+fn fill<R: Read>(from: &mut R, to: &mut Vec<u8>) -> io::Result<usize>
+    ensures within { IfOk result (λ n. n ≤ vec_len to.new) }
+    ensures long { vec_len to.new ≡ vec_len to.old }
+{
+    let mut at = 0;
+    'parts: while at < to.len() {
+        let n = from.read(&mut to[at..])?;
+        if n == 0 {
+            break;
+        }
+        at += n;
+    }
+    Ok(at)
+}
+
+// Fills `to` from the file, which counts as empty where it is missing.
+fn fill_from_file(rt: &HostRuntime, to: &mut Vec<u8>) -> io::Result<usize>
+    ensures within { IfOk result (λ n. n ≤ vec_len to.new) }
+{
+    match File::open(rt, "catalogue") {
+        Ok(mut file) => fill(&mut file, to),
+        Err(e) => {
+            if e.kind() == ErrorKind::NotFound {
+                Ok(0)
+            } else {
+                Err(e)
+            }
+        }
+    }
+}
+
+// The calls that the lines of some input make.
+fn calls_in(rt: &HostRuntime, input: &[u8]) -> anyhow::Result<Vec<Option<Call>>> {
+    let mut calls = Vec::new(rt.alloc());
+    let mut lines = Lines::new(input);
+    'lines: while let Some(line) = lines.next_line() {
+        calls.push(parse(line))?;
+    }
+    Ok(calls)
+}
+
+// Prints each reply on a line.
+fn print(rt: &HostRuntime, replies: &[Reply]) -> anyhow::Result<()> {
+    for reply in replies {
+        let reply = *reply;
+        println!(rt; "{reply}")?;
+    }
+    Ok(())
+}
+
+// Reads more of standard input behind the first bytes of `input`, and answers how many bytes came.
+fn read_on(rt: &HostRuntime, input: &mut Vec<u8>, behind: usize) -> io::Result<usize>
+    requires { behind ≤ vec_len input.old }
+    ensures within { IfOk result (λ n. behind + n ≤ vec_len input.new) }
+    ensures long { vec_len input.new ≡ vec_len input.old }
+{
+    rt.stdin().read(&mut input[behind..])
+}
+
+// How many bytes make lines: whole ones while more may come, and else all.
+fn ready(input: &[u8], more: bool) -> usize
+    ensures { result ≤ length input.now }
+{
+    if more {
+        whole_lines(input)
+    } else {
+        input.len()
+    }
+}
+
+// Answers the lines of some input.
+fn answer<B: Binder + Drop>(
+    rt: &HostRuntime,
+    session: Session<B>,
+    input: &[u8],
+) -> anyhow::Result<Session<B>> {
+    let calls = calls_in(rt, input)?;
+    let mut replies = Vec::from_elem(rt.alloc(), Reply::NotPossible, calls.len())?;
+    let mut plan = [0; 48];
+    let after = session.run(calls.as_slice(), replies.as_mut_slice(), &mut plan[..]);
+    print(rt, replies.as_slice())?;
+    Ok(after)
+}
+
+// Answers the lines of standard input as they come.
+fn serve<B: Binder + Drop>(rt: &HostRuntime, planner: Planner<B>) -> anyhow::Result<()> {
+    let mut session = Session::Outside(planner);
+    let mut input = Vec::from_elem(rt.alloc(), 0u8, LIMIT)?;
+    let mut from = 0;
+    let mut to = 0;
+    let mut more = true;
+    'reads: while more {
+        let n = read_on(rt, &mut input, to)?;
+        more = n > 0;
+        to += n;
+        let lines = ready(&input[from..to], more);
+        session = answer(rt, session, &input[from..from + lines])?;
+        from += lines;
+    }
+    Ok(())
+}
+
+fn run(rt: &HostRuntime) -> anyhow::Result<()> {
+    let mut memory = Vec::from_elem(rt.alloc(), 0u8, LIMIT)?;
+    let n = fill_from_file(rt, &mut memory)?;
+    let mut catalogue = Catalogue::built_in();
+    match check(&memory[0..n], &mut catalogue) {
+        Ok(counts) => {
+            println!(rt; "{counts}")?;
+            serve(rt, plain::open(&catalogue))
+        }
+        Err(fault) => {
+            println!(rt; "{fault}")?;
+            Ok(())
+        }
+    }
+}
+
+fn main(rt: HostRuntime) -> anyhow::Result<()> {
+    run(&rt)
+}
