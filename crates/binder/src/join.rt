@@ -67,6 +67,7 @@ impl<A: Binder, B: Binder> Binder for Join<A, B> {
         if all < SHEETS { all } else { SHEETS }
     }
 
+    #[tactic(auto, using(crate::proofs::Paired::paired_marks))]
     fn marks(&self) -> usize {
         self.first.marks()
     }
