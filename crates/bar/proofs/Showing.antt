@@ -1,5 +1,5 @@
 -- A showing by the counted support, and a fresh binder, in the words of a binder. Assumes nothing.
-use Rattle.std.proofs.Common.{◌≡◌, ℕ, ◌/◌, ◌<◌, ◌≤◌, Bool, true, false, ◌&&◌, T, ltb, List, [], map, length, get_or, sym, refl, ap, ◌∙◌, subst, ⊎_elim, arith}
+use Rattle.std.proofs.Common.{◌≡◌, ℕ, ◌/◌, ◌<◌, ◌≤◌, Bool, true, ◌&&◌, T, ltb, List, [], map, length, get_or, sym, refl, ap, ◌∙◌, subst, ⊎_elim, arith}
 use Rattle.std.proofs.lemmas.Bool.{lt-ltb, le-ltb, cases_lt, cond-false, and_left}
 use Rattle.boxes.specs.Boxes.{Open, Fits}
 use Rattle.catalogue.specs.declared.counts.Counts.{Counts}

@@ -1,5 +1,5 @@
 -- What a binder means, and what its calls do to that. Assumes nothing.
-use Rattle.std.specs.Prelude.{◌≡◌, ℕ, ◌+◌, ◌<◌, ◌≤◌, Bool, true, false, cond, T, List, [], ◌∷◌, length, Ok, Err, Result, ◌==◌, ◌≢◌, nat_lt, slice_index, slice_index_or}
+use Rattle.std.specs.Prelude.{◌≡◌, ℕ, ◌+◌, ◌<◌, ◌≤◌, Bool, cond, T, List, length, Ok, Err, Result, ◌==◌, ◌≢◌, nat_lt, slice_index, slice_index_or}
 use Rattle.boxes.specs.Boxes.{Open, Fits, Within}
 use Rattle.binder.specs.declared.refusal.Refusal.{Refusal}
 use Rattle.binder.specs.declared.refusal.Refusal.TheVariants.{NotThere}

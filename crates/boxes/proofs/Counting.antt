@@ -1,5 +1,5 @@
 -- The open options of a box counted and found. Assumes nothing.
-use Rattle.std.proofs.Common.{◌≡◌, ℕ, zero, suc, ◌+◌, ◌-◌, ◌*◌, ◌/◌, ◌%◌, ◌^◌, ◌<◌, ◌≤◌, Bool, true, false, cond, ◌&&◌, T, eqb, ltb, ◌⊎◌, ◌↔◌, List, length, get_or, set, replicate, Decides, sym, refl, ap, ◌∙◌, subst, inl, inr, ⊎_elim, mod-eq_of_lt, pow-suc, div-one, add-one, one-add, arith, eqb→eq, ltb→lt, lt→ltb, get_or-set_other, get_or-set_same}
+use Rattle.std.proofs.Common.{◌≡◌, ℕ, zero, suc, ◌+◌, ◌-◌, ◌*◌, ◌/◌, ◌%◌, ◌^◌, ◌<◌, ◌≤◌, Bool, true, false, cond, ◌&&◌, T, eqb, ltb, ◌⊎◌, ◌↔◌, List, length, get_or, set, replicate, sym, refl, ap, ◌∙◌, subst, inl, inr, ⊎_elim, mod-eq_of_lt, pow-suc, div-one, add-one, one-add, arith, eqb→eq, ltb→lt, lt→ltb, get_or-set_other, get_or-set_same}
 use native.Mathlib.Nat.{mod-one}
 use lib.Count.{ones, ones_cat, count_trailing_zeros, under}
 use lib.Dec.{eqb_refl}
@@ -8,7 +8,7 @@ use Rattle.std.proofs.lemmas.List.{get_or_past, same_lists, get_or_default}
 use Rattle.std.proofs.lemmas.Bool.{cases_eq, cases_lt, eqb-true, eq-eqb}
 use Rattle.subject.specs.Boxes.{Box, Inside, sum, opened_at, opened}
 use Rattle.subject.proofs.Bits as Number
-use Rattle.boxes.specs.Boxes.{Open, opens, Bit, Below, Fixed, Filled, Some, Lowest, Two, Loose, Restricted, Within, Differ}
+use Rattle.boxes.specs.Boxes.{Open, opens, Bit, Below, Fixed, Filled, Some, Lowest, Two, Restricted, Within, Differ}
 use Rattle.boxes.proofs.Bits.{open_low, open_same, none_open, shut_past}
 
 both : (x y : Bool) → T (x && y) ↔ (T x × T y)

@@ -1,5 +1,5 @@
 -- What the records so far have said, and the checks of one record more. Assumes nothing.
-use Rattle.std.specs.Prelude.{ℕ, ◌+◌, ◌-◌, ◌*◌, Bool, true, false, cond, not, ◌&&◌, ◌||◌, ltb, leb, List, [], ◌∷◌, ◌++◌, length, take, drop, ℤ, pos, negsuc, Some, None, Option, ◌==◌, int_lt, nat_eq, nat_le, nat_lt, slice_index}
+use Rattle.std.specs.Prelude.{ℕ, ◌+◌, ◌-◌, ◌*◌, Bool, true, false, not, ◌&&◌, ◌||◌, ltb, leb, List, [], ◌∷◌, ◌++◌, length, take, drop, ℤ, pos, negsuc, Some, None, Option, ◌==◌, int_lt, nat_eq, nat_le, nat_lt, slice_index}
 use Rattle.std.proofs.Common.{to_z}
 use Rattle.std.specs.Int.{w16, w32}
 use Rattle.catalogue.specs.declared.make.Make.{Make}

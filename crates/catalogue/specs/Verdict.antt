@@ -1,5 +1,5 @@
 -- What a file is judged to be: its content and counts, or its first fault. Assumes nothing.
-use Rattle.std.specs.Prelude.{ℕ, zero, suc, ◌+◌, ◌-◌, Bool, true, false, ◌&&◌, List, [], ◌∷◌, length, Ok, Err, Result, ◌==◌}
+use Rattle.std.specs.Prelude.{ℕ, zero, suc, ◌+◌, ◌-◌, Bool, false, ◌&&◌, List, [], ◌∷◌, length, Ok, Err, Result, ◌==◌}
 use Rattle.catalogue.specs.declared.fault.Fault.{Fault}
 use Rattle.catalogue.specs.declared.counts.Counts.{Counts}
 use Rattle.catalogue.specs.Content.{Content, rows_in}

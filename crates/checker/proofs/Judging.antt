@@ -1,10 +1,10 @@
 -- What is left of a file, judged from what was said so far, gives its verdict. Assumes nothing.
-use Rattle.std.proofs.Common.{◌≡◌, ℕ, zero, suc, ◌+◌, ◌-◌, ◌<◌, ◌≤◌, Bool, true, false, cond, List, [], ◌∷◌, length, Ok, Err, Result, sym, refl, ap, ◌∙◌, subst, arith}
+use Rattle.std.proofs.Common.{◌≡◌, ℕ, suc, ◌+◌, ◌-◌, ◌<◌, ◌≤◌, true, false, List, [], ◌∷◌, length, Ok, Err, Result, sym, refl, ap, ◌∙◌, arith}
 use Rattle.catalogue.specs.declared.counts.Counts.{Counts}
 use Rattle.catalogue.specs.declared.fault.Fault.{Fault}
 use Rattle.checker.specs.declared.progress.Progress.{Progress}
 use Rattle.catalogue.specs.Content.{Content}
-use Rattle.catalogue.specs.Records.{Rec, slot, header, row, weight, end, Check, ◌when◌, fault_at, judged, reading, record_at, read_at, size_of}
+use Rattle.catalogue.specs.Records.{Rec, slot, header, row, weight, end, Check, ◌when◌, judged, reading, record_at, read_at, size_of}
 use Rattle.catalogue.specs.Checks.{Said, nothing, content_of, checks, after}
 use Rattle.catalogue.specs.Verdict.{onward, follow, behind, content_from, content, counts_of, verdict}
 use Rattle.catalogue.specs.Law.{Inner}

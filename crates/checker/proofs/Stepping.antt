@@ -1,5 +1,5 @@
 -- What one record more does to what a check's state shows. Assumes nothing.
-use Rattle.std.proofs.Common.{◌≡◌, ℕ, zero, suc, ◌+◌, ◌-◌, ◌*◌, ◌<◌, ◌≤◌, Bool, true, false, cond, not, ◌&&◌, ◌||◌, leb, List, [], ◌∷◌, ◌++◌, length, get_or, take, drop, is_some, Some, None, Ok, Option, sym, refl, ap, ◌∙◌, subst, mul-zero, mul-suc, arith, lit<, lit≤, length-append}
+use Rattle.std.proofs.Common.{◌≡◌, ℕ, zero, suc, ◌+◌, ◌-◌, ◌*◌, ◌<◌, ◌≤◌, Bool, true, false, not, ◌&&◌, leb, List, [], ◌∷◌, ◌++◌, length, take, drop, is_some, Some, None, Ok, Option, sym, refl, ap, ◌∙◌, subst, mul-zero, mul-suc, arith, lit<, lit≤, length-append}
 use Rattle.std.proofs.lemmas.List.{take-take}
 use Rattle.std.proofs.lemmas.Bool.{false≢true}
 use Rattle.std.proofs.lemmas.Bool.Decides.{nat_tests}
@@ -9,9 +9,9 @@ use Rattle.catalogue.specs.declared.make.Make.TheVariants.{Fit, Bar, Load}
 use Rattle.checker.specs.declared.progress.Progress.{Progress}
 use Rattle.catalogue.specs.Content.{Sheet, Weight, rows_in, loads_in, is_one, place, places}
 use Rattle.catalogue.specs.Records.{header_size}
-use Rattle.catalogue.specs.Checks.{Said, listed, sheets_of, has_list, well_filled, well_sized, well_scoped, scope_of, well_weighed, weight_of, is_load, takes_rows, takes_weights, scope_in, rows_of, places_of, add_row, add_weight, fresh, after}
+use Rattle.catalogue.specs.Checks.{listed, has_list, well_filled, well_sized, well_scoped, scope_of, well_weighed, weight_of, is_load, takes_rows, takes_weights, scope_in, rows_of, places_of, add_row, add_weight, fresh}
 use Rattle.checker.specs.Model.{Part, parts_from, head_len, row_read, weight_read, scope_read}
-use Rattle.checker.specs.Steps.{Newest, Held, Shows, rows_under, weights_under, loads_with, step_of, key_len, keys_of}
+use Rattle.checker.specs.Steps.{Newest, Held, rows_under, weights_under, loads_with, step_of, key_len, keys_of}
 
 -- where there is no sheet yet, there is none after a slot
 pub still_none : (bs : List ℕ) (at to : ℕ) (p q : Progress) (m : Option Make) (o : Option Sheet) → is_some m ≡ false → Newest bs at p m o → Newest bs to q m o

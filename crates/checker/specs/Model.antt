@@ -1,5 +1,5 @@
 -- What the values of the checking program stand for. Assumes nothing.
-use Rattle.std.specs.Prelude.{◌≡◌, ℕ, zero, suc, ◌+◌, ◌*◌, ◌≤◌, not, List, [], ◌∷◌, length, take, drop, Ok, Err, Result, slice_index}
+use Rattle.std.specs.Prelude.{◌≡◌, ℕ, zero, suc, ◌+◌, ◌≤◌, not, List, [], ◌∷◌, length, take, drop, Ok, Err, Result, slice_index}
 use Rattle.std.specs.Borrow.{Bor}
 use Rattle.catalogue.specs.declared.fault.Fault.{Fault}
 use Rattle.catalogue.specs.declared.make.Make.{Make}

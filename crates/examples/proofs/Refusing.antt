@@ -1,5 +1,5 @@
 -- The reckoner's refusals are the refusals. Assumes nothing.
-use Rattle.std.proofs.Common.{◌≡◌, ℕ, zero, suc, ◌<◌, ◌≤◌, T, eqb, ltb, leb, List, ◌∷◌, length, get_or, subst, arith, nltb→le}
+use Rattle.std.proofs.Common.{◌≡◌, ℕ, zero, suc, ◌<◌, ◌≤◌, T, eqb, ltb, leb, List, length, get_or, subst, arith, nltb→le}
 use lib.Dec.{not_T, nleb→lt}
 use Rattle.subject.specs.Problem.{Problem}
 use Rattle.subject.specs.Decisions.{Decision, Open, Largest, tries}

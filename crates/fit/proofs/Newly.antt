@@ -1,11 +1,10 @@
 -- A binder of fit sheets as it is first filled: its runs are laid, and it keeps every row. Assumes nothing.
-use Rattle.std.proofs.Common.{◌≡◌, ℕ, zero, suc, ◌+◌, ◌*◌, ◌/◌, ◌<◌, ◌≤◌, Bool, true, false, cond, ◌&&◌, ◌||◌, ltb, ◌⊎◌, List, [], ◌∷◌, map, length, get_or, replicate, Decides, sym, refl, ap, ◌∙◌, subst, inl, inr, ⊎_elim, arith}
+use Rattle.std.proofs.Common.{◌≡◌, ℕ, zero, suc, ◌+◌, ◌*◌, ◌/◌, ◌<◌, ◌≤◌, true, false, ltb, List, [], ◌∷◌, map, length, get_or, replicate, Decides, sym, refl, ap, ◌∙◌, subst, ⊎_elim, arith}
 use lib.ListN.{get_or-replicate}
 use Rattle.std.specs.List.{AllByRecursion}
 use Rattle.std.proofs.lemmas.Bool.{cases_lt, false≢true, or_cases, or_left, or_right, le-ltb, cond-false, and_left}
 use Rattle.std.proofs.lemmas.Bool.Decides.{same_from_decides, Decides-like}
 use Rattle.catalogue.specs.declared.counts.Counts.{Counts}
-use Rattle.catalogue.specs.declared.make.Make.{Make}
 use Rattle.catalogue.specs.declared.make.Make.TheVariants.{Fit}
 use Rattle.catalogue.specs.declared.view.View.{View}
 use Rattle.catalogue.specs.Content.{Sheet, GoodSheet, rows_in}
@@ -13,15 +12,15 @@ use Rattle.catalogue.specs.Checks.{same, has_list, is_load}
 use Rattle.catalogue.specs.Law.{Octets}
 use Rattle.catalogue.specs.Verdict.{content, accepts}
 use Rattle.catalogue.specs.Views.{showing, shown_by}
-use Rattle.sheets.specs.Rules.{rule, admits, scope_at, admits_at, Fresh}
-use Rattle.sheets.specs.Tables.{Taken, shown_in, shown_at, sheets_in, row_at}
+use Rattle.sheets.specs.Rules.{rule, Fresh}
+use Rattle.sheets.specs.Tables.{Taken, shown_in, sheets_in, row_at}
 use Rattle.sheets.proofs.Chosen.{taken_of, taken_sheets}
 use Rattle.sheets.proofs.Entries.{entries_rows, row_at_lem, row_long, row_low}
 use Rattle.sheets.proofs.Scopes.{scope_apart, scope_low}
 use Rattle.sheets.proofs.Tabled.{At, at, sheets_long, none_at}
-use Rattle.fit.specs.Laid.{scope_of, entries_of, row_count, rows_before, row_of, Sound, Each, Apart, Runs, Laid}
-use Rattle.fit.specs.Meaning.{scope_in, Keeps, keeps, fitting, scope_here, same_decides, keeps_decides}
-use Rattle.fit.proofs.Filled.{before_next, before_up}
+use Rattle.fit.specs.Laid.{scope_of, row_count, rows_before, row_of, Sound, Each, Apart, Runs, Laid}
+use Rattle.fit.specs.Meaning.{scope_in, keeps, fitting, scope_here, same_decides, keeps_decides}
+use Rattle.fit.proofs.Filled.{before_next}
 
 -- a list is among the rows where it stands at some place
 has_to : (l : List ℕ) (rows : List (List ℕ)) → has_list l rows ≡ true → (r : ℕ) × (r < length rows) × (get_or rows r [] ≡ l)

@@ -1,6 +1,6 @@
 -- Rows read where they lie in the entries. Assumes nothing.
-use Rattle.std.proofs.Common.{◌≡◌, ℕ, ◌+◌, ◌*◌, ◌<◌, ◌≤◌, List, length, get_or, take, drop, sym, refl, ◌∙◌, subst, arith, length-drop, length-take, get_or-drop, get_or-take, below_more}
-use Rattle.boxes.specs.Boxes.{Open, Fits}
+use Rattle.std.proofs.Common.{◌≡◌, ℕ, ◌+◌, ◌*◌, ◌<◌, ◌≤◌, List, length, get_or, drop, sym, ◌∙◌, subst, arith, length-drop, length-take, get_or-drop, get_or-take, below_more}
+use Rattle.boxes.specs.Boxes.{Open}
 use Rattle.sheets.specs.Tables.{row_at}
 use Rattle.fit.specs.Rows.{option_at, Suits, Suiting}
 

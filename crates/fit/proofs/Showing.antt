@@ -1,15 +1,15 @@
 -- One sheet sifted and its box narrowed: what that comes to for the binder. Assumes nothing.
-use Rattle.std.proofs.Common.{◌≡◌, ℕ, ◌+◌, ◌*◌, ◌<◌, ◌≤◌, Bool, true, false, T, ◌⊎◌, List, [], length, get_or, set, Decides, sym, refl, ap, ◌∙◌, subst, inl, inr, ⊎_elim, arith, length-set, get_or-set_other, get_or-set_same}
+use Rattle.std.proofs.Common.{◌≡◌, ℕ, ◌+◌, ◌<◌, ◌≤◌, Bool, List, [], length, get_or, set, Decides, sym, refl, ap, ◌∙◌, subst, ⊎_elim, arith, length-set, get_or-set_other, get_or-set_same}
 use Rattle.std.proofs.lemmas.Bool.{cases_eq, cases_lt}
 use Rattle.std.proofs.lemmas.Bool.Decides.{same_from_decides, Decides-like}
 use Rattle.catalogue.specs.declared.view.View.{View}
 use Rattle.boxes.specs.Boxes.{Open, Fits, Bit}
 use Rattle.boxes.proofs.Bits.{open_low}
-use Rattle.binder.specs.Meaning.{Binding, Held, Shown, SameSheets}
+use Rattle.binder.specs.Meaning.{Binding, Shown}
 use Rattle.sheets.specs.Closing.{Narrowed, shorter}
-use Rattle.sheets.proofs.Narrowing.{Masks, BoxShown, shown_by_masks}
+use Rattle.sheets.proofs.Narrowing.{Masks, shown_by_masks}
 use Rattle.fit.specs.Runs.{Among, Mixed, Sifted}
-use Rattle.fit.specs.Rows.{option_at, Suits, Whole, Low, Backed, Gathered}
+use Rattle.fit.specs.Rows.{option_at, Suits, Whole, Low, Gathered}
 use Rattle.fit.specs.Laid.{scope_of, entries_of, row_count, row_of, Laid}
 use Rattle.fit.specs.Meaning.{scope_in, Keeps, keeps, kept_at, fitting, Exact, scope_here, keeps_decides, kept_decides, from_T, to_T}
 use Rattle.fit.proofs.Reading.{suits_at}

@@ -4,14 +4,14 @@ use Rattle.std.proofs.Common.{sym, ap, ap₂, subst, ◌∙◌, arith}
 use Rattle.std.proofs.Math.Logic.{∥∥₁_elim}
 use Rattle.std.proofs.Math.Bridge.{le_prop}
 use Rattle.std.proofs.Math.Nat.{ℕ_set}
-use Rattle.std.proofs.lemmas.Bool.{false≢true, and_parts, and_from, eqb-true, eq-eqb, lt-ltb, cond-true, cond-false}
+use Rattle.std.proofs.lemmas.Bool.{false≢true, and_parts, and_from, eqb-true, eq-eqb, lt-ltb, cond-true}
 use Rattle.std.proofs.lemmas.Bool.Decides.{Decides-and, Decides-ltb, Decides-like, Decides-below_or}
 use Rattle.catalogue.specs.declared.view.View.{View}
 use Rattle.catalogue.specs.Checks.{same}
 use Rattle.boxes.specs.Boxes.{Fits}
 use Rattle.binder.specs.Meaning.{Binding, Proper, Listed}
 use Rattle.fit.specs.Runs.{Among}
-use Rattle.fit.specs.Laid.{scope_of, row_count, row_of, Sound, Laid}
+use Rattle.fit.specs.Laid.{scope_of, row_count, row_of, Laid}
 use Rattle.fit.specs.declared.Fit.{Fit}
 
 -- the scope of sheet s, if there is one

@@ -3,7 +3,7 @@ use Rattle.std.proofs.Common.{◌≡◌, ℕ, suc, ◌+◌, ◌-◌, ◌*◌, �
 use native.Mathlib.Nat.{zero-div, div-eq_of_lt, add-mul-div_right}
 use lib.Bits.{bit_or, or_zero_r}
 use lib.Count.{count_leading_zeros}
-use Rattle.std.proofs.lemmas.Nat.{or_shr, or_mod, one_shl, pow-add, pow_pos, pow_below, leading_top}
+use Rattle.std.proofs.lemmas.Nat.{or_shr, or_mod, one_shl, pow-add, pow_pos, leading_top}
 use Rattle.std.proofs.lemmas.Bool.{cases_eq, cases_order}
 use Rattle.boxes.specs.Boxes.{Bit}
 use Rattle.boxes.proofs.Bits.{bit, bit_here, bit_other}

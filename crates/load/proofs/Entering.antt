@@ -1,5 +1,5 @@
 -- The entries of load sheets give weights, and there are at most eight such sheets. Assumes nothing.
-use Rattle.std.proofs.Common.{◌≡◌, ℕ, suc, ◌+◌, ◌<◌, ◌≤◌, true, false, List, [], ◌∷◌, length, get_or, set, ℤ, sym, refl, ap, ◌∙◌, subst, arith, get_or-set_other, get_or-set_same, below_more}
+use Rattle.std.proofs.Common.{◌≡◌, ℕ, ◌+◌, ◌<◌, ◌≤◌, true, List, [], ◌∷◌, length, get_or, set, ℤ, sym, refl, ap, subst, arith, get_or-set_other, get_or-set_same, below_more}
 use mathlib.Core.Logic.{∥∥₁_elim, ∥∥₁_map}
 use native.Mathlib.Bridge.{le_prop}
 use Rattle.std.specs.List.{AllByRecursion}
@@ -9,11 +9,11 @@ use Rattle.catalogue.specs.declared.make.Make.TheVariants.{Fit, Bar, Load}
 use Rattle.catalogue.specs.declared.view.View.{View}
 use Rattle.catalogue.specs.Content.{Sheet, GoodSheet, is_one, loads_in}
 use Rattle.catalogue.specs.Checks.{is_load}
-use Rattle.catalogue.specs.Views.{is_make, Shown, showing}
+use Rattle.catalogue.specs.Views.{is_make, Shown}
 use Rattle.catalogue.specs.Writing.{entry_bytes}
 use Rattle.sheets.specs.Tables.{Taken, shown_at}
-use Rattle.sheets.proofs.Tabled.{At, at, sheets_long}
-use Rattle.sheets.proofs.Entries.{rows_none, few_options, entries_weights, WeightAt, weight_at_lem}
+use Rattle.sheets.proofs.Tabled.{at, sheets_long}
+use Rattle.sheets.proofs.Entries.{rows_none, few_options, entries_weights, weight_at_lem}
 use Rattle.load.specs.Given.{no_weight, Gives, Giving, TellsAll}
 
 same_make : (m : Make) → is_make Load m ≡ true → m ≡ Load

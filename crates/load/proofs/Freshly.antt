@@ -1,9 +1,8 @@
 -- A new load binder means just the load sheets of its catalogue. Assumes nothing.
 use Rattle.std.proofs.Common.{◌≡◌, ℕ, ◌<◌, ◌≤◌, Bool, true, false, ◌&&◌, eqb, ltb, List, [], map, length, get_or, ℤ, sym, refl, ap, ◌∙◌, subst, ⊎_elim, arith}
 use lib.Signed.{le_z}
-use Rattle.std.proofs.lemmas.Bool.{cases_lt, cases_Bool, lt-ltb, le-ltb, and_parts, and_left, cond-false}
+use Rattle.std.proofs.lemmas.Bool.{cases_lt, lt-ltb, le-ltb, and_parts, and_left, cond-false}
 use Rattle.catalogue.specs.declared.counts.Counts.{Counts}
-use Rattle.catalogue.specs.declared.make.Make.{Make}
 use Rattle.catalogue.specs.declared.make.Make.TheVariants.{Load}
 use Rattle.catalogue.specs.declared.view.View.{View}
 use Rattle.catalogue.specs.Content.{Sheet}
@@ -11,10 +10,9 @@ use Rattle.catalogue.specs.Checks.{all}
 use Rattle.catalogue.specs.Law.{Octets}
 use Rattle.catalogue.specs.Verdict.{accepts, content}
 use Rattle.catalogue.specs.Views.{Shown, showing}
-use Rattle.binder.specs.Meaning.{Binding}
-use Rattle.sheets.specs.Rules.{is_list, total_from, rule, admits, scope_at, admits_at, Fresh}
+use Rattle.sheets.specs.Rules.{is_list, total_from, rule, scope_at, admits_at, Fresh}
 use Rattle.sheets.specs.Tables.{Taken, shown_in, shown_at, sheets_in}
-use Rattle.sheets.proofs.Tabled.{At, at, none_at, sheets_long}
+use Rattle.sheets.proofs.Tabled.{at, none_at, sheets_long}
 use Rattle.sheets.proofs.Chosen.{taken_of, taken_sheets}
 use Rattle.load.specs.Joins.{weigh}
 use Rattle.load.specs.Sums.{sums}

@@ -1,8 +1,7 @@
 -- The least weight, option by option and position by position. Assumes nothing.
-use Rattle.std.proofs.Common.{◌≡◌, ℕ, ◌+◌, ◌<◌, ◌≤◌, ◌⊎◌, List, length, get_or, set, ℤ, pos, ◌≤ℤ◌, Some, None, Option, sym, refl, ◌∙◌, subst, inl, inr, ⊎_elim, arith, get_or-set_other, get_or-set_same, below_more}
+use Rattle.std.proofs.Common.{◌≡◌, ℕ, ◌+◌, ◌<◌, ◌⊎◌, List, length, get_or, set, ℤ, pos, ◌≤ℤ◌, Some, None, Option, sym, ◌∙◌, subst, inl, inr, ⊎_elim, arith, get_or-set_other, get_or-set_same, below_more}
 use Rattle.std.proofs.lemmas.Bool.{cases_eq}
 use Rattle.boxes.specs.Boxes.{Open, Bit}
-use Rattle.load.specs.Joins.{Joining, Least}
 use Rattle.load.specs.Sums.{sums, either_way}
 use Rattle.load.specs.Weights.{weighs, OpenIn, cell_at, Highest, Small, Lowest, LowestOf, LowestAt, Lesser}
 use Rattle.load.proofs.Bitwise.{without, top_bit, top_gone, without_from, without_still, no_bit}

@@ -3,7 +3,7 @@ use Rattle.std.proofs.Common.{◌≡◌, ℕ, ◌⊎◌, sym, subst, inl, inr, �
 use Rattle.std.proofs.lemmas.Bool.{cases_eq}
 use Rattle.boxes.specs.Boxes.{Bit}
 use Rattle.load.specs.Weights.{Highest, Masked}
-use Rattle.load.proofs.Bitwise.{with_bit, without, bit_set, bit_added, bit_there, no_bit, without_from, without_still, top_bit}
+use Rattle.load.proofs.Bitwise.{with_bit, without, bit_set, bit_added, bit_there, no_bit, without_from, without_still}
 
 -- of the options that meet P, those have a bit that are not left
 pub record MaskSoFar (P : ℕ → Type 0) (cell left mask : ℕ) : Type 0 where

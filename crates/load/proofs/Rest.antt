@@ -2,7 +2,7 @@
 use Rattle.std.proofs.Common.{◌≡◌, ℕ, ◌+◌, ◌*◌, ◌<◌, ◌≤◌, List, length, get_or, take, drop, set, ℤ, pos, ◌+ℤ◌, neg_ℤ, ◌≤ℤ◌, sym, ap, ◌∙◌, subst, arith, length-set, length-take, get_or-set_other, get_or-take, get_or-set_same, w32, SFits, to_z, of_z}
 use Rattle.std.proofs.lemmas.List.{at_drop_more, at_drop_all}
 use Rattle.std.proofs.lemmas.Int.{ints}
-use Rattle.load.specs.Joins.{Joining, total}
+use Rattle.load.specs.Joins.{total}
 use Rattle.load.specs.Sums.{sums}
 use Rattle.load.specs.Weights.{Small, Fair, rest_of}
 use Rattle.load.proofs.Signs.{fair_back, fair_fits, small_fair}

@@ -1,17 +1,17 @@
 -- What a load sheet does to a box that it is shown, in the words of a binder. Assumes nothing.
-use Rattle.std.proofs.Common.{◌≡◌, ℕ, zero, suc, ◌<◌, ◌≤◌, min, Bool, true, false, ◌&&◌, T, eqb, ltb, List, [], ◌∷◌, length, get_or, ℤ, ◌≤ℤ◌, sym, refl, ap, ◌∙◌, subst, arith}
+use Rattle.std.proofs.Common.{◌≡◌, ℕ, suc, ◌<◌, Bool, true, ◌&&◌, T, eqb, ltb, List, [], ◌∷◌, length, get_or, ℤ, ◌≤ℤ◌, sym, refl, ap, ◌∙◌, subst, arith}
 use lib.Signed.{le_z}
 use Rattle.std.proofs.lemmas.Bool.{lt-ltb, eq-eqb, and_parts, and_from}
 use Rattle.catalogue.specs.declared.view.View.{View}
 use Rattle.catalogue.specs.Checks.{all}
 use Rattle.catalogue.specs.Views.{Shown}
-use Rattle.boxes.specs.Boxes.{Open, Fits}
+use Rattle.boxes.specs.Boxes.{Fits}
 use Rattle.boxes.proofs.Bits.{open_low}
-use Rattle.binder.specs.Meaning.{Binding, Held, Shown as ShownBox, SameSheets}
+use Rattle.binder.specs.Meaning.{Held, Shown as ShownBox}
 use Rattle.sheets.specs.Closing.{Narrowed, shorter}
 use Rattle.sheets.specs.Tables.{shown_at}
 use Rattle.sheets.specs.Rules.{is_list}
-use Rattle.sheets.proofs.Narrowing.{Masks, BoxShown, shown_by_masks}
+use Rattle.sheets.proofs.Narrowing.{BoxShown, shown_by_masks}
 use Rattle.load.specs.Joins.{weigh}
 use Rattle.load.specs.Sums.{sums}
 use Rattle.load.specs.Weights.{weighs, Supported, Supports}

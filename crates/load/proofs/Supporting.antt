@@ -1,5 +1,5 @@
 -- The masks are the supported options. Assumes nothing.
-use Rattle.std.proofs.Common.{◌≡◌, ℕ, ◌<◌, ◌≤◌, List, length, get_or, take, set, replicate, ℤ, pos, sym, refl, subst, ⊎_elim, arith, length-take, get_or-take}
+use Rattle.std.proofs.Common.{◌≡◌, ℕ, ◌<◌, ◌≤◌, List, length, get_or, take, replicate, ℤ, pos, sym, refl, subst, ⊎_elim, arith, length-take, get_or-take}
 use lib.ListN.{get_or-replicate}
 use Rattle.std.proofs.lemmas.List.{get_or_past, length-replicate}
 use Rattle.std.proofs.lemmas.Bool.{cases_lt}

@@ -1,5 +1,5 @@
 -- A table that is read from weights says what they say. Assumes nothing.
-use Rattle.std.proofs.Common.{◌≡◌, ℕ, zero, suc, ◌+◌, ◌*◌, ◌<◌, ◌≤◌, Bool, true, false, cond, ◌&&◌, eqb, ltb, List, [], ◌∷◌, length, get_or, drop, set, replicate, ℤ, pos, ◌+ℤ◌, sym, refl, ap, ◌∙◌, subst, ap₂, ⊎_elim, arith, length-set, get_or-set_other, get_or-set_same}
+use Rattle.std.proofs.Common.{◌≡◌, ℕ, suc, ◌+◌, ◌*◌, ◌<◌, ◌≤◌, true, false, ◌&&◌, eqb, ltb, List, [], ◌∷◌, length, get_or, drop, set, replicate, ℤ, pos, ◌+ℤ◌, sym, refl, ap, ◌∙◌, subst, ap₂, ⊎_elim, arith, length-set, get_or-set_other, get_or-set_same}
 use Rattle.std.proofs.lemmas.List.{get_or-replicate, get_or_past, drop_more, drop_all, length-replicate}
 use Rattle.std.proofs.lemmas.Bool.{cases_eq, cases_lt, and_from, and_left, and_right, and_parts, eq-eqb, ne_eqb, ltb-true, cond-true, cond-false}
 use Rattle.catalogue.specs.Content.{Weight}
@@ -8,7 +8,7 @@ use Rattle.sheets.specs.Rules.{weight_in, total_from}
 use Rattle.load.specs.Joins.{weigh}
 use Rattle.load.specs.Sums.{sums}
 use Rattle.load.specs.Weights.{weighs}
-use Rattle.load.specs.Given.{no_weight, amount_at, Gives, Tells, TellsAll}
+use Rattle.load.specs.Given.{no_weight, amount_at, Gives, Tells}
 
 -- with no weight all is 0
 pub tells_none : Tells (replicate 256 (pos 0)) []

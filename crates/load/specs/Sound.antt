@@ -1,5 +1,5 @@
 -- That load sheets of a sound catalogue are a proper binder. Assumes nothing.
-use Rattle.std.specs.Prelude.{◌≡◌, ℕ, zero, suc, ◌<◌, ◌≤◌, Bool, true, false, cond, ◌&&◌, T, ltb, List, [], ◌∷◌, length, ℤ, ◌==◌, ◌≢◌, int_le, nat_lt, slice_index, slice_index_or, refl}
+use Rattle.std.specs.Prelude.{◌≡◌, ℕ, zero, suc, ◌<◌, ◌≤◌, Bool, true, false, ◌&&◌, T, ltb, List, [], ◌∷◌, length, ℤ, ◌==◌, ◌≢◌, int_le, nat_lt, slice_index, slice_index_or, refl}
 use Rattle.std.proofs.Common.{sym, subst, arith}
 use Rattle.std.proofs.Math.Logic.{∥∥₁_elim}
 use mathlib.Core.HLevel.{⊥_prop}
@@ -7,13 +7,12 @@ use Rattle.std.proofs.Math.Bridge.{le_prop}
 use Rattle.std.proofs.lemmas.Bool.{lt-ltb, and_parts, eqb-true, ltb-true, cond-true}
 use Rattle.catalogue.specs.declared.make.Make.{Make}
 use Rattle.catalogue.specs.declared.view.View.{View}
-use Rattle.catalogue.specs.Content.{GoodSheet}
 use Rattle.catalogue.specs.Checks.{all}
-use Rattle.catalogue.specs.Views.{Shown, showing}
-use Rattle.binder.specs.Meaning.{Binding, Listed, Proper}
+use Rattle.catalogue.specs.Views.{Shown}
+use Rattle.binder.specs.Meaning.{Listed, Proper}
 use Rattle.sheets.specs.Tables.{Taken, shown_at}
 use Rattle.sheets.specs.Rules.{is_list}
-use Rattle.sheets.proofs.Tabled.{At, at}
+use Rattle.sheets.proofs.Tabled.{at}
 use Rattle.sheets.proofs.Scopes.{scope_low, scope_apart}
 use Rattle.load.specs.Joins.{weigh}
 use Rattle.load.specs.Sums.{sums}

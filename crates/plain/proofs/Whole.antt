@@ -1,5 +1,5 @@
 -- Binders of a catalogue's makes side by side mean all its sheets. Assumes nothing.
-use Rattle.std.proofs.Common.{◌≡◌, ℕ, zero, suc, ◌+◌, ◌-◌, ◌<◌, ◌≤◌, min, Bool, true, false, cond, eqb, List, [], ◌∷◌, ◌++◌, length, Ok, Err, Result, sym, refl, ap, ◌∙◌, subst, ⊎_elim, arith, length-append}
+use Rattle.std.proofs.Common.{◌≡◌, ℕ, zero, suc, ◌+◌, ◌-◌, ◌<◌, ◌≤◌, Bool, true, false, cond, eqb, List, [], ◌∷◌, ◌++◌, length, Ok, Result, sym, refl, ap, ◌∙◌, subst, ⊎_elim, arith, length-append}
 use Rattle.std.proofs.lemmas.Bool.{cases_lt, eq-eqb, cond-true}
 use Rattle.catalogue.specs.declared.counts.Counts.{Counts}
 use Rattle.catalogue.specs.declared.fault.Fault.{Fault}
@@ -9,10 +9,9 @@ use Rattle.catalogue.specs.Content.{Sheet, Content}
 use Rattle.catalogue.specs.Verdict.{content, accepts}
 use Rattle.catalogue.specs.Law.{Octets}
 use Rattle.catalogue.specs.Views.{is_make, of_make}
-use Rattle.catalogue.proofs.Held.{Held, held}
+use Rattle.catalogue.proofs.Held.{held}
 use Rattle.sheets.specs.Tables.{sheets_in}
 use Rattle.sheets.specs.Rules.{scope_at, admits_at, Fresh}
-use Rattle.subject.specs.Problem.{Problem}
 use Rattle.binder.specs.Meaning.{Binding, kept_first}
 use Rattle.binder.specs.Joined.{Beside}
 use Rattle.planner.specs.Opening.{slots_in, posed}

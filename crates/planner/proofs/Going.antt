@@ -1,12 +1,12 @@
 -- What begin, next and end do to a walk and its log. Assumes nothing.
-use Rattle.std.proofs.Common.{◌≡◌, ℕ, zero, suc, ◌+◌, ◌<◌, ◌≤◌, Bool, true, false, List, [], ◌∷◌, ◌++◌, length, take, drop, Ok, Err, sym, refl, ap, ◌∙◌, subst, subst₂, arith, length-take}
+use Rattle.std.proofs.Common.{◌≡◌, ℕ, ◌+◌, ◌<◌, ◌≤◌, List, [], ◌∷◌, ◌++◌, length, take, drop, Ok, Err, sym, refl, ap, ◌∙◌, subst, subst₂, arith, length-take}
 use Rattle.std.proofs.lemmas.List.{take_at}
 use Rattle.subject.specs.declared.refusal.Refusal.TheVariants.{ShortMemory}
 use Rattle.subject.specs.Problem.{Problem}
 use Rattle.subject.specs.Boxes.{Box}
 use Rattle.subject.specs.Decisions.{Decision}
 use Rattle.subject.specs.Plans.{Plan, First, NoMore}
-use Rattle.subject.specs.Logs.{Log, calls, Refuses, Standing, walking, given, begin, end, next, plan, none, done, refused}
+use Rattle.subject.specs.Logs.{Log, calls, Refuses, given, begin, end, next}
 use Rattle.subject.specs.Logs.{refuses, next_short, begin_done, end_done, next_plan, next_none}
 use Rattle.subject.proofs.Standing.{free_begin, free_end, free_next, stand_refused, stand_decided}
 use Rattle.boxes.specs.Boxes.{opens}
@@ -21,14 +21,14 @@ use Rattle.explore.specs.declared.outcome.Outcome.{Outcome}
 use Rattle.explore.specs.declared.outcome.Outcome.TheVariants.{Empty, Dry, Split, Found}
 use Rattle.explore.proofs.Turning.{exploring_begins}
 use Rattle.planner.specs.Answers.{begins, nexts, ends}
-use Rattle.planner.specs.States.{Saved, Stands, After}
+use Rattle.planner.specs.States.{Saved, After}
 use Rattle.planner.specs.Walks.{At, Goes, Walking}
 use Rattle.planner.specs.declared.state.Planner.{Planner}
 use Rattle.planner.specs.declared.state.Walk.{Walk}
 use Rattle.planner.specs.declared.step.State.{State}
 use Rattle.planner.specs.declared.step.State.TheVariants.{Fresh, AtPlan, Spent}
 use Rattle.planner.specs.declared.step.Step.TheVariants.{Plan as ThePlan, NoPlan}
-use Rattle.planner.proofs.Steps.{slots_are, saved_marked}
+use Rattle.planner.proofs.Steps.{saved_marked}
 
 -- the state says the same of another stack, unless the walk is spent
 at_on : (s : State) (G : List Plan) (t u : ℕ) → (s ≡ Spent → ⊥) → At s G t → At s G u

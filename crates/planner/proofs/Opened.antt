@@ -1,9 +1,9 @@
 -- What opening a planner comes to. Assumes nothing.
-use Rattle.std.proofs.Common.{◌≡◌, ℕ, zero, suc, ◌+◌, ◌<◌, ◌≤◌, Bool, true, false, cond, T, eqb, ◌⊎◌, List, [], ◌∷◌, length, get_or, take, set, replicate, Some, None, Ok, Err, Option, Result, sym, refl, ap, ◌∙◌, subst, inl, inr, ⊎_elim, arith, length-set, length-take, get_or-set_other, get_or-take, get_or-set_same}
+use Rattle.std.proofs.Common.{◌≡◌, ℕ, zero, suc, ◌+◌, ◌<◌, ◌≤◌, true, T, List, [], ◌∷◌, length, get_or, take, set, replicate, Some, None, Ok, Err, Result, sym, refl, ap, ◌∙◌, subst, ⊎_elim, arith, length-set, length-take, get_or-set_other, get_or-take, get_or-set_same}
 use Rattle.std.specs.List.{slice_get, AllByRecursion}
 use Rattle.std.proofs.lemmas.List.{get_or_past, same_lists, get_or_default}
 use Rattle.std.proofs.lemmas.Option.{slice_get-get_or, slice_get_past}
-use Rattle.std.proofs.lemmas.Bool.{cases_eq, cases_lt, eq-eqb, cond-true}
+use Rattle.std.proofs.lemmas.Bool.{cases_eq, cases_lt}
 use Rattle.catalogue.specs.declared.fault.Fault.{Fault}
 use Rattle.catalogue.specs.Content.{Content}
 use Rattle.catalogue.specs.declared.counts.Counts.{Counts}
@@ -16,13 +16,12 @@ use Rattle.subject.specs.Boxes.{Box}
 use Rattle.subject.specs.Decisions.{Largest}
 use Rattle.boxes.specs.Boxes as Cells
 use Rattle.boxes.specs.Boxes.{opens, Filled}
-use Rattle.boxes.proofs.Bits.{open_low}
 use Rattle.boxes.proofs.Counting.{opens_is}
 use Rattle.binder.specs.declared.binders.Binder.{Ghosts}
-use Rattle.binder.specs.Meaning.{Binding, Alike, Cleared, kept_first}
-use Rattle.settle.specs.Keeping.{Has, Keeps, Framed}
+use Rattle.binder.specs.Meaning.{Binding, Cleared}
+use Rattle.settle.specs.Keeping.{Has, Keeps}
 use Rattle.settle.specs.Settled.{Settled}
-use Rattle.settle.proofs.Keeping.{keeps_less, keeps_same, has_framed}
+use Rattle.settle.proofs.Keeping.{keeps_same, has_framed}
 use Rattle.settle.proofs.Tight.{framed_none}
 use Rattle.planner.specs.Opening.{slots_said, slots_in, posed, AllBelow, Started}
 use Rattle.planner.specs.States.{After}

@@ -1,13 +1,13 @@
 -- What each call does to a planner, its binder and its log. Assumes nothing.
-use Rattle.std.proofs.Common.{◌≡◌, ℕ, zero, suc, ◌+◌, ◌^◌, ◌<◌, ◌≤◌, Bool, T, ◌≢◌, ◌↔◌, List, [], ◌∷◌, length, get_or, take, set, sym, refl, ap, ◌∙◌, subst, subst₂, ⊎_elim, arith, length-take, get_or-take}
+use Rattle.std.proofs.Common.{◌≡◌, ℕ, suc, ◌+◌, ◌^◌, ◌<◌, ◌≤◌, Bool, T, ◌≢◌, ◌↔◌, List, [], ◌∷◌, length, get_or, take, set, sym, refl, ap, ◌∙◌, subst, subst₂, ⊎_elim, arith, length-take, get_or-take}
 use Rattle.std.proofs.lemmas.Bool.{cases_eq}
 use Rattle.subject.specs.declared.refusal.Refusal.{Refusal}
 use Rattle.subject.specs.declared.refusal.Refusal.TheVariants.{NoSlot, NoOption, NotOpen, TooManyTries, NoTry, ShortMemory}
 use Rattle.subject.specs.Refusals.{number_of}
 use Rattle.subject.specs.Problem.{Problem, Real, Placed}
-use Rattle.subject.specs.Boxes.{Box, Inside, opened}
+use Rattle.subject.specs.Boxes.{Inside, opened}
 use Rattle.subject.specs.Decisions.{Decision, tried, struck, Forbids, Open, Largest, tries, undone}
-use Rattle.subject.specs.Logs.{Log, Call, Answer, calls, decided, walking, given, Refuses, Standing, Bit, Reckoned, try, strike, back, look, count, bits, refused}
+use Rattle.subject.specs.Logs.{Log, Call, Answer, calls, decided, walking, given, Refuses, Bit, Reckoned, try, strike, back, look, count, bits, refused}
 use Rattle.subject.specs.Logs.{refuses, try_slot, try_option_lem, try_shut, strike_slot, strike_option, strike_shut, try_done, strike_done, back_done, look_done}
 use Rattle.subject.specs.Law.{inside}
 use Rattle.subject.proofs.Bits.{small_bit}
@@ -20,11 +20,10 @@ use Rattle.boxes.proofs.Bits.{open_same}
 use Rattle.boxes.proofs.Counting.{opens_is}
 use Rattle.binder.specs.declared.binders.Binder.{Ghosts}
 use Rattle.binder.specs.Meaning.{Binding, Alike, Noted, Undone}
-use Rattle.settle.specs.Keeping.{Has, Keeps, Framed}
+use Rattle.settle.specs.Keeping.{Has, Keeps}
 use Rattle.settle.specs.Settled.{Settled}
 use Rattle.settle.proofs.Keeping.{keeps_less, keeps_same, has_framed}
 use Rattle.planner.specs.States.{Found, Shut, cells_at, Saved, Stands, After}
-use Rattle.planner.specs.declared.state.Slots.{Slots}
 use Rattle.planner.specs.declared.state.Planner.{Planner}
 use Rattle.planner.proofs.Tables.{cells_same, cells_other}
 

@@ -1,5 +1,5 @@
 -- A table of saved boxes. Assumes nothing.
-use Rattle.std.proofs.Common.{◌≡◌, ℕ, zero, suc, ◌<◌, List, [], ◌∷◌, length, get_or, set, sym, refl, ap, ◌∙◌, arith}
+use Rattle.std.proofs.Common.{◌≡◌, ℕ, zero, suc, ◌<◌, List, [], ◌∷◌, length, get_or, set, refl, ap, arith}
 use Rattle.boxes.specs.declared.OptionBox.{OptionBox}
 use Rattle.planner.specs.States.{cells_at}
 

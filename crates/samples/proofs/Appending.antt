@@ -1,5 +1,5 @@
 -- What two additions in a row come to.
-use Rattle.std.proofs.Common.{◌≡◌, ℕ, ◌+◌, List, ◌++◌, IfOk, Ok, Err, Result, sym, refl, ap, ◌∙◌, append_assoc, add_assoc}
+use Rattle.std.proofs.Common.{◌≡◌, ℕ, List, ◌++◌, IfOk, Ok, Err, Result, ap, ◌∙◌, append_assoc}
 use Prim.{tt}
 
 -- what was made has whatever follows from what it has

@@ -1,5 +1,5 @@
 -- The law of a log from the session that it has led to. Assumes nothing.
-use Rattle.std.proofs.Common.{◌≡◌, ℕ, ◌<◌, ◌≤◌, true, false, List, [], length, Option, sym, refl, ◌∙◌, subst, true≢false, arith}
+use Rattle.std.proofs.Common.{◌≡◌, ℕ, ◌≤◌, false, List, length, Option, sym, refl, ◌∙◌, subst, true≢false, arith}
 use Rattle.subject.specs.declared.call.Call.{Call}
 use Rattle.subject.specs.declared.answer.Reply.{Reply}
 use Rattle.subject.specs.Problem.{Problem}

@@ -1,5 +1,5 @@
 -- What one line does to a session. Assumes nothing.
-use Rattle.std.proofs.Common.{◌≡◌, ℕ, true, false, not, List, ◌∷◌, length, Some, None, Option, sym, refl, ap, ◌∙◌, subst}
+use Rattle.std.proofs.Common.{◌≡◌, ℕ, List, ◌∷◌, length, Some, None, Option, sym, refl, subst}
 use Rattle.subject.specs.declared.call.Call.{Call}
 use Rattle.subject.specs.declared.call.Call.TheVariants.{Try, Strike, Back, Look, Begin, Next, End}
 use Rattle.subject.specs.declared.answer.Answer.{Answer}
@@ -15,7 +15,7 @@ use Rattle.planner.specs.States.{After}
 use Rattle.planner.specs.Walks.{Walking}
 use Rattle.planner.specs.declared.state.Planner.{Planner}
 use Rattle.planner.specs.declared.state.Walk.{Walk}
-use Rattle.session.specs.Runs.{called, answer_of, entered, Fitting, overlaid, Stepped, Walks}
+use Rattle.session.specs.Runs.{entered, Fitting, Stepped, Walks}
 
 -- begin was made
 module _ {B : Type 0} {bound : Ghosts B} (meaning : B → Binding) (P : Problem) (L : Log) (line : Option Call) (p : Planner B bound) (w : Walk B bound) (is : line ≡ Some Begin) where

@@ -1,7 +1,6 @@
 -- What next gives, taken from the front of a memory. Assumes nothing.
-use Rattle.std.proofs.Common.{◌≡◌, ℕ, ◌+◌, ◌-◌, ◌≤◌, List, ◌∷◌, ◌++◌, length, take, drop, Ok, Err, Result, sym, ap, ◌∙◌, subst, arith, length-append, length-drop, length-take}
+use Rattle.std.proofs.Common.{◌≡◌, ℕ, ◌≤◌, List, ◌∷◌, ◌++◌, length, take, drop, Ok, sym, ap, ◌∙◌, subst, arith, length-append, length-drop, length-take}
 use Rattle.std.proofs.lemmas.List.{take_at}
-use Rattle.subject.specs.declared.refusal.Refusal.{Refusal}
 use Rattle.subject.specs.declared.answer.Answer.TheVariants.{Plan as GivePlan, NoPlan as GiveNone}
 use Rattle.subject.specs.Problem.{Problem}
 use Rattle.subject.specs.Logs.{Log, next, plan}

@@ -1,9 +1,9 @@
 -- One line after another. Assumes nothing.
-use Rattle.std.proofs.Common.{◌≡◌, ℕ, zero, suc, ◌+◌, ◌<◌, ◌≤◌, ◌≢◌, List, [], ◌∷◌, ◌++◌, length, get_or, set, Some, None, Option, sym, refl, ap, ◌∙◌, subst, subst₂, ⊎_elim, add-one, arith, length-set, get_or-set_other, get_or-set_same}
+use Rattle.std.proofs.Common.{◌≡◌, ℕ, zero, suc, ◌+◌, ◌<◌, ◌≤◌, ◌≢◌, List, length, get_or, set, None, Option, sym, refl, ◌∙◌, subst, subst₂, ⊎_elim, add-one, arith, length-set, get_or-set_other, get_or-set_same}
 use Rattle.std.proofs.lemmas.Bool.{cases_eq}
 use Rattle.subject.specs.declared.call.Call.{Call}
 use Rattle.subject.specs.declared.answer.Reply.{Reply}
-use Rattle.subject.specs.declared.answer.Reply.TheVariants.{Given, NotPossible}
+use Rattle.subject.specs.declared.answer.Reply.TheVariants.{NotPossible}
 use Rattle.subject.specs.Problem.{Problem}
 use Rattle.subject.specs.Logs.{Log}
 use Rattle.binder.specs.declared.binders.Binder.{Ghosts}

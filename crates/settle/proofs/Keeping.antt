@@ -1,14 +1,14 @@
 -- From showings to the largest supported box of every problem that the binder serves. Assumes nothing.
-use Rattle.std.proofs.Common.{◌≡◌, ℕ, ◌<◌, Bool, T, List, length, get_or, sym, refl, ap, ◌∙◌, subst, arith}
+use Rattle.std.proofs.Common.{◌≡◌, ℕ, ◌<◌, Bool, T, List, length, get_or, sym, ap, ◌∙◌, subst}
 use Rattle.subject.specs.Problem.{Problem, Real, Placed}
-use Rattle.subject.specs.Boxes.{Box, Inside, Fits, Supported, LargestIn}
-use Rattle.subject.proofs.Largest.{Left, all_held, none_held}
+use Rattle.subject.specs.Boxes.{Box, Inside, Fits, Supported}
+use Rattle.subject.proofs.Largest.{Left, all_held}
 use Rattle.boxes.specs.Boxes as Cells
 use Rattle.boxes.specs.Boxes.{Open, opens, Within}
 use Rattle.boxes.proofs.Counting.{opens_is}
 use Rattle.binder.specs.Meaning.{Binding, Held, Alike}
 use Rattle.settle.specs.Keeping.{Has, Keeps, Framed}
-use Rattle.settle.specs.Settled.{Settled, Under, Upheld, Tight, Passed, Alive}
+use Rattle.settle.specs.Settled.{Settled, Upheld, Tight, Passed, Alive}
 use Rattle.settle.proofs.Tight.{tight_trans, held_same}
 
 pub keeps_less : (P : Problem) (X Y : Box) (k : ℕ → List ℕ → Bool) → Inside Y X → Keeps P X k → Keeps P Y k

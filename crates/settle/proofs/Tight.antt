@@ -1,11 +1,11 @@
 -- A settling on its way: what one showing, a round and rounds in a row do. Assumes nothing.
-use Rattle.std.proofs.Common.{◌≡◌, ℕ, zero, suc, ◌+◌, ◌<◌, ◌≤◌, T, ◌⊎◌, List, [], ◌∷◌, length, get_or, sym, refl, ap, ◌∙◌, subst, inl, inr, ⊎_elim, arith}
+use Rattle.std.proofs.Common.{◌≡◌, ℕ, zero, suc, ◌+◌, ◌<◌, T, ◌⊎◌, List, [], ◌∷◌, length, get_or, sym, refl, ◌∙◌, subst, inl, inr, ⊎_elim, arith}
 use Rattle.std.proofs.lemmas.Bool.{cases_eq}
 use Rattle.subject.specs.Boxes as Subject
 use Rattle.subject.specs.Boxes.{Box}
 use Rattle.boxes.specs.Boxes.{Open, Fits, Within}
 use Rattle.boxes.proofs.Bits.{open_same}
-use Rattle.binder.specs.Meaning.{Binding, Held, Shown, SameSheets, Alike}
+use Rattle.binder.specs.Meaning.{Binding, Held, Shown, Alike}
 use Rattle.settle.specs.Keeping.{Framed}
 use Rattle.settle.specs.Settled.{Under, Upheld, Tight, Passed}
 

@@ -1,7 +1,7 @@
 -- Closing position by position comes to a showing, where the masks are the supported options. Assumes nothing.
-use Rattle.std.proofs.Common.{◌≡◌, ℕ, ◌+◌, ◌<◌, ◌≤◌, ◌⊎◌, List, length, get_or, sym, refl, ap, ◌∙◌, subst, inl, inr, ⊎_elim, arith}
+use Rattle.std.proofs.Common.{◌≡◌, ℕ, ◌+◌, ◌<◌, List, length, get_or, sym, refl, ◌∙◌, subst, ⊎_elim, arith}
 use Rattle.std.proofs.lemmas.Bool.{cases_eq, cases_lt}
-use Rattle.boxes.specs.Boxes.{Open, Fits, Within, Bit, Restricted}
+use Rattle.boxes.specs.Boxes.{Open, Within, Bit, Restricted}
 use Rattle.boxes.proofs.Bits.{open_same}
 use Rattle.binder.specs.Meaning.{Binding, Held}
 use Rattle.sheets.specs.Closing.{Narrowed}

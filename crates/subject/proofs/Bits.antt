@@ -1,5 +1,5 @@
 -- Bits of numbers. Assumes nothing.
-use Rattle.std.proofs.Common.{◌≡◌, ℕ, zero, suc, ◌+◌, ◌-◌, ◌*◌, ◌/◌, ◌%◌, ◌^◌, ◌<◌, ◌≤◌, ◌≢◌, ◌↔◌, sym, refl, ap, ◌∙◌, subst, pow-suc, div-one, one-add, arith, pow_mono}
+use Rattle.std.proofs.Common.{◌≡◌, ℕ, zero, suc, ◌-◌, ◌/◌, ◌%◌, ◌^◌, ◌<◌, ◌≤◌, ◌↔◌, refl, ap, pow-suc, div-one, one-add, arith, pow_mono}
 use native.Mathlib.Decide.{dec_lt, ℕ_discrete}
 use Rattle.subject.specs.Logs.{Bit}
 use Rattle.std.proofs.lemmas.Nat.{shr-shr, pow_pos}

@@ -1,8 +1,8 @@
 -- The largest supported box, and how repeated closing comes to it. Assumes nothing.
 use Rattle.std.proofs.Common.{ℕ, ◌<◌, T, ◌↔◌, List, ◌∷◌, length}
-use Rattle.subject.specs.Problem.{Problem, Real, Placed}
-use Rattle.subject.specs.Boxes.{Box, Inside, Supports, Supported, LargestIn}
-use Rattle.subject.specs.Decisions.{Decision, Forbids, Within, Open, Largest}
+use Rattle.subject.specs.Problem.{Problem}
+use Rattle.subject.specs.Boxes.{Box, Inside, Supported, LargestIn}
+use Rattle.subject.specs.Decisions.{Decision, Forbids, Within, Largest}
 
 -- it lies within the decisions
 pub largest_within : (P : Problem) (D : List Decision) (X : Box) → Largest P D X → Within D X

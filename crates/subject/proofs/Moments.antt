@@ -1,14 +1,14 @@
 -- What is answered depends on the slots, the scopes, the rules, what is forbidden and the plans given, and on nothing
 -- else. Assumes nothing.
-use Rattle.std.proofs.Common.{◌≡◌, ℕ, ◌^◌, ◌<◌, ◌≤◌, false, T, ◌⊎◌, ◌↔◌, List, [], ◌∷◌, ◌++◌, map, length, get_or, sym, refl, ap, ◌∙◌, subst, ap₂, subst₂, inl, inr, arith}
+use Rattle.std.proofs.Common.{◌≡◌, ℕ, ◌<◌, false, T, List, [], ◌∷◌, ◌++◌, map, length, get_or, sym, refl, ap, ◌∙◌, subst, ap₂, subst₂, inl, inr, arith}
 use Rattle.subject.specs.Problem.{Problem, Real, Names, Placed, Same}
-use Rattle.subject.specs.Boxes.{Box, Fits, Supports, Supported}
+use Rattle.subject.specs.Boxes.{Box, Fits, Supported}
 use Rattle.subject.specs.Decisions.{Decision, Agree, Open}
-use Rattle.subject.specs.Plans.{Plan, Meets, Before, Behind, First, NoMore}
-use Rattle.subject.specs.Logs.{Call, Answer, Entry, Log, calls, decided, Then, Standing, walking, given, Bit, Reckoned, refuses}
+use Rattle.subject.specs.Plans.{Plan, Meets, Before, First}
+use Rattle.subject.specs.Logs.{Call, Answer, Entry, Log, calls, decided, Then, Standing, walking, given, Reckoned, refuses}
 use Rattle.subject.specs.Logs.{try, strike, back, begin, end, look, next, count, bits, refused, plan, none, done}
 use Rattle.subject.specs.Logs.{look_slot, look_done, begin_done, end_done, next_short, next_plan, next_none}
-use Rattle.subject.specs.Law.{Lawful, Quiet, Looking, inside, Alike}
+use Rattle.subject.specs.Law.{Quiet, Looking, inside, Alike}
 use Rattle.subject.proofs.Standing.{determinate}
 use Rattle.subject.proofs.Bits.{same_bits}
 

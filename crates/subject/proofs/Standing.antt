@@ -1,13 +1,13 @@
 -- The decisions that stand, reckoned from the calls alone. Assumes nothing.
-use Rattle.std.proofs.Common.{◌≡◌, ℕ, zero, suc, ◌+◌, ◌<◌, ◌≤◌, ◌⊎◌, ◌↔◌, List, [], ◌∷◌, ◌++◌, map, length, get_or, sym, refl, ap, ◌∙◌, subst, inl, inr, arith}
+use Rattle.std.proofs.Common.{◌≡◌, ℕ, ◌<◌, ◌≤◌, List, [], ◌∷◌, length, sym, refl, ap, ◌∙◌, subst, inl, inr, arith}
 use Rattle.subject.specs.Problem.{Problem, Real}
 use Rattle.subject.specs.Decisions.{Decision, Open, tries}
 use Rattle.subject.specs.Plans.{Plan}
-use Rattle.subject.specs.Logs.{Call, Answer, Entry, Log, calls, decided, walking, given, Refuses, Then, Standing, Reckoned}
-use Rattle.subject.specs.Logs.{try, strike, back, begin, end, look, next, count, bits, refused, plan, none, done}
+use Rattle.subject.specs.Logs.{Call, Answer, decided, given, Refuses, Then, Standing, Reckoned}
+use Rattle.subject.specs.Logs.{try, strike, back, begin, end, look, next, refused}
 use Rattle.subject.specs.Logs.{try_slot, try_option_lem, try_shut, try_full, strike_slot, strike_option, strike_shut, back_none, look_slot, next_short}
 use Rattle.subject.specs.Logs.{refuses, try_done, strike_done, back_done, look_done, begin_done, end_done, next_plan, next_none}
-use Rattle.subject.specs.Law.{Lawful, Judged, Determinate, Fair}
+use Rattle.subject.specs.Law.{Determinate, Fair}
 
 pub open_real : (P : Problem) (D : List Decision) (s o : ℕ) → Open P D s o → Real P s o
 open_real P D s o w = w.1.real s o w.3

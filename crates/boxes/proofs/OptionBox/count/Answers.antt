@@ -1,5 +1,4 @@
-use Rattle.std.proofs.Common.{◌≡◌, ◌^◌, ◌<◌, ◌≤◌, get_or, ap, ◌∙◌, arith, rules}
-use lib.Count.{ones}
+use Rattle.std.proofs.Common.{◌≡◌, ◌^◌, ◌<◌, get_or, ap, ◌∙◌, arith, rules}
 use Rattle.std.proofs.lemmas.Nat.{ones-le}
 use Rattle.subject.specs.Boxes.{sum, opened_at}
 use Rattle.boxes.specs.Boxes.{opens}

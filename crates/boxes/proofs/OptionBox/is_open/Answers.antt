@@ -1,4 +1,4 @@
-use Rattle.std.proofs.Common.{sym, arith}
+use Rattle.std.proofs.Common.{arith}
 use Rattle.std.proofs.lemmas.Bool.{false≢true}
 use Rattle.boxes.proofs.Bits.{tested, shut_past, shut_high}
 use Rattle.boxes.proofs.OptionBox.is_open.Goals as goal

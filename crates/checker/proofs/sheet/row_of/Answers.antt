@@ -1,7 +1,6 @@
-use Rattle.std.proofs.Common.{◌≡◌, ◌≤◌, true, length, sym, arith}
+use Rattle.std.proofs.Common.{◌≤◌, length, sym, arith}
 use Rattle.std.proofs.lemmas.List.{length-take-le}
 use Rattle.std.proofs.lemmas.Bool.Decides.{nat_tests}
-use Rattle.catalogue.specs.Checks.{well_filled}
 use Rattle.checker.proofs.Tests.{filled_long}
 use Rattle.checker.proofs.sheet.row_of.Goals as goal
 use Rattle.checker.proofs.sheet.row_of.Goals.{Else-not-well_filled}

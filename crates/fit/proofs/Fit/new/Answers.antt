@@ -1,4 +1,4 @@
-use Rattle.std.proofs.Common.{◌≡◌, ◌≤◌, length, arith}
+use Rattle.std.proofs.Common.{◌≤◌, length, arith}
 use Rattle.fit.proofs.Newly.{taken, rows_few, runs_apart, laid_first, fresh}
 use Rattle.fit.proofs.Fit.new.Goals as goal
 

@@ -1,4 +1,4 @@
-use Rattle.std.proofs.Common.{◌+◌, sym, ap, ◌∙◌, arith}
+use Rattle.std.proofs.Common.{arith}
 use Rattle.fit.proofs.Filled.{each_more, before_next, before_more}
 use Rattle.fit.proofs.filling.run_starts.Goals as goal
 

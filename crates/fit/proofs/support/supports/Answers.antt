@@ -1,6 +1,6 @@
-use Rattle.std.proofs.Common.{◌≡◌, ◌<◌, sym, refl, ◌∙◌, arith}
+use Rattle.std.proofs.Common.{refl, arith}
 use Rattle.fit.specs.Rows.{option_at}
-use Rattle.fit.proofs.Masking.{filling_none, filling_more, filling_left, Filling}
+use Rattle.fit.proofs.Masking.{filling_none, filling_more, filling_left}
 use Rattle.fit.proofs.support.supports.Goals as goal
 
 pub rows-init : goal.rows-init

@@ -1,8 +1,7 @@
-use Rattle.std.proofs.Common.{◌≡◌, ℕ, ◌+◌, ◌-◌, ◌*◌, ◌/◌, ◌≤◌, List, length, drop, sym, ◌∙◌, subst, arith, w16}
+use Rattle.std.proofs.Common.{◌≡◌, ℕ, ◌+◌, ◌-◌, ◌*◌, ◌/◌, ◌≤◌, length, drop, ◌∙◌, subst, arith, w16}
 use mathlib.Core.Logic.{∥∥₁_elim}
 use native.Mathlib.Bridge.{le_prop}
 use Rattle.std.proofs.lemmas.Int.{to_z-of_z}
-use Rattle.catalogue.specs.Content.{Weight}
 use Rattle.load.specs.Given.{Tells}
 use Rattle.load.proofs.Weighing.{Reading, reading_none, reading_more, inside}
 use Rattle.load.proofs.weights.table_of.Goals as goal

@@ -1,5 +1,5 @@
 -- A part of eight bytes FF is as many bytes FF.
-use Rattle.std.proofs.Common.{◌≡◌, ℕ, zero, suc, ◌+◌, ◌-◌, ◌<◌, List, [], ◌∷◌, replicate, refl, arith}
+use Rattle.std.proofs.Common.{◌≡◌, ℕ, zero, suc, ◌-◌, ◌<◌, [], ◌∷◌, replicate, refl, arith}
 use borrow.Rule.Slice.PartMut.{mid_of}
 use Rattle.samples.proofs.draft.unused_behind.Goals as goal
 

@@ -1,4 +1,4 @@
-use Rattle.std.proofs.Common.{◌≡◌, refl, subst, arith}
+use Rattle.std.proofs.Common.{refl, arith}
 use Rattle.std.proofs.lemmas.Bool.{both_ways}
 use Rattle.session.proofs.Steps.{running_none, running_more, running_end}
 use Rattle.session.proofs.Lines.{begin_enters, begin_fits}

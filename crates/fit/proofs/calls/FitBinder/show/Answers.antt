@@ -1,8 +1,6 @@
-use Rattle.std.proofs.Common.{◌≡◌, ℕ, ◌<◌, ◌≤◌, List, length, get_or, sym, ap, subst, arith}
-use Rattle.sheets.specs.Closing.{Narrowed}
+use Rattle.std.proofs.Common.{ℕ, ◌<◌, ◌≤◌, List, length, get_or, sym, ap, subst}
 use Rattle.fit.specs.Runs.{Sifted}
 use Rattle.fit.specs.Rows.{Suits, Whole, Low, Gathered}
-use Rattle.fit.specs.Laid.{scope_of, entries_of}
 use Rattle.fit.specs.Meaning.{laid_out}
 use Rattle.fit.proofs.Showing.{whole, laid_sifted, whole_after, low_after, exact, shown, at_sheet, narrowed_all}
 use Rattle.fit.proofs.calls.FitBinder.show.Goals as goal

@@ -1,4 +1,4 @@
-use Rattle.std.proofs.Common.{◌<◌, ◌≤◌, arith}
+use Rattle.std.proofs.Common.{◌≤◌, arith}
 use Rattle.fit.specs.Meaning.{laid_out}
 use Rattle.fit.proofs.Marking.{laid_undone, undone}
 use Rattle.fit.proofs.calls.FitBinder.undo.Goals as goal

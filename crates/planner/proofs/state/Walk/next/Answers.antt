@@ -1,4 +1,4 @@
-use Rattle.std.proofs.Common.{◌≡◌, ◌++◌, length, take, drop, sym, refl, ap, ◌∙◌, subst, arith, rules}
+use Rattle.std.proofs.Common.{◌≡◌, ◌++◌, length, take, drop, sym, refl, ap, ◌∙◌, subst, arith}
 use Rattle.explore.specs.Outcomes.{Long}
 use Rattle.planner.proofs.Going.{turning_none, short_stays, turn_dry, turn_split, turn_empty, turn_found, turn_spent, front_of}
 use Rattle.planner.proofs.state.Walk.next.Goals as goal

@@ -1,6 +1,5 @@
 -- The bytes that follow the used ones are FF, up to eight.
-use Rattle.std.proofs.Common.{length, vec_items, ap, ◌∙◌, arith, rules}
-use Prim.{tt}
+use Rattle.std.proofs.Common.{length, vec_items, ap, ◌∙◌, arith}
 use lib.ListN.{length-replicate}
 use Rattle.samples.proofs.Appending.{mapped, twice}
 use Rattle.samples.proofs.draft.Draft.fields.Goals as goal

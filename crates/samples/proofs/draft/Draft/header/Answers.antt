@@ -1,6 +1,5 @@
 -- A header is its kind, how many slots it names, and eight bytes.
 use Rattle.std.proofs.Common.{◌%◌, [], ◌∷◌, length, vec_items, refl, arith}
-use Prim.{tt}
 use Rattle.samples.proofs.Appending.{mapped, twice}
 use Rattle.samples.proofs.draft.Draft.header.Goals as goal
 

@@ -1,6 +1,5 @@
 -- A load sheet's header has four bytes more.
 use Rattle.std.proofs.Common.{◌%◌, ◌∷◌, length, vec_items, ap, arith}
-use Prim.{tt}
 use Rattle.catalogue.specs.Writing.{padded}
 use Rattle.samples.proofs.Appending.{mapped, twice}
 use Rattle.samples.proofs.Signed.{four_bytes_lem}

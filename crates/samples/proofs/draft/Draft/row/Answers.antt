@@ -1,6 +1,5 @@
 -- A row is its kind and eight bytes.
 use Rattle.std.proofs.Common.{[], ◌∷◌, vec_items, refl, arith}
-use Prim.{tt}
 use Rattle.samples.proofs.Appending.{mapped, twice}
 use Rattle.samples.proofs.draft.Draft.row.Goals as goal
 

@@ -1,6 +1,5 @@
 -- A weight is its kind, what it is of, and two bytes.
 use Rattle.std.proofs.Common.{[], ◌∷◌, length, vec_items, ap, arith}
-use Prim.{tt}
 use Rattle.samples.proofs.Appending.{mapped, twice}
 use Rattle.samples.proofs.Signed.{two_bytes_lem}
 use Rattle.samples.proofs.draft.Draft.weight.Goals as goal
