@@ -9,4 +9,5 @@ pub mod Meaning
 pub mod Held
 pub mod Laid
 pub mod Scan
+pub mod Walk
 pub mod Told

@@ -5,5 +5,7 @@ pub mod Checks
 pub mod Verdict
 pub mod Law
 pub mod Views
+pub mod Kinds
 pub mod Places
+pub mod Listing
 pub mod Wording

@@ -28,12 +28,6 @@ pub record Lies (bs : List ℕ) (at : ℕ) (t : Sheet) (to : ℕ) : Type 0 where
   pub entries : Entries bs (past bs at) to
   pub shown : take (to - past bs at) (drop (past bs at) bs) ≡ entry_bytes t
 
--- some sheet lies from a place on
-pub record SheetAt (bs : List ℕ) (at : ℕ) : Type 0 where
-  pub sheet : Sheet
-  pub to : ℕ
-  pub lies : Lies bs at sheet to
-
 -- from a place on lie these sheets and nothing else, and then the end
 pub data Ahead (bs : List ℕ) : ℕ → List Sheet → Type 0 where
   end : {at : ℕ} → at < length bs → kind_at bs at ≡ 7 → Ahead bs at []

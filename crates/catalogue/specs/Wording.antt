@@ -4,11 +4,18 @@ use Rattle.catalogue.specs.declared.counts.Counts.{Counts}
 use Rattle.catalogue.specs.declared.fault.Fault.{Fault}
 use Rattle.catalogue.specs.declared.fault.Layer.{Layer}
 use Rattle.catalogue.specs.declared.fault.Layer.TheVariants.{Record, Sheet, Catalogue}
+use Rattle.catalogue.specs.declared.make.Make.{Make}
+use Rattle.catalogue.specs.declared.make.Make.TheVariants.{Fit, Bar, Load}
 
 abbrev pub layer_word : Layer → List ℕ
 layer_word Record = codes "record"
 layer_word Sheet = codes "sheet"
 layer_word Catalogue = codes "catalogue"
+
+abbrev pub make_word : Make → List ℕ
+make_word Fit = codes "fit"
+make_word Bar = codes "bar"
+make_word Load = codes "load"
 
 abbrev pub counts_line : Counts → List ℕ
 counts_line c =

@@ -1,31 +1,90 @@
-// The kinds of records: the first byte of each.
-ghost use Rattle.std.specs.Prelude.{◌≡◌};
+// The kinds of records: the first byte of each, and how long the record is.
+ghost use Rattle.std.specs.Prelude.{◌≡◌, ◌+◌};
 ghost use Rattle.catalogue.specs.Records.{body_len};
+ghost use Rattle.catalogue.specs.Places.{is_entry};
+ghost use Rattle.catalogue.specs.Kinds.{code_of, make_of, IsKindOf};
 
-pub const SLOT: u8 = 1;
+use crate::make::Make;
 
-pub const FIT: u8 = 2;
+#[derive(Clone, Copy, PartialEq, Eq, Debug)]
+pub enum Kind {
+    Slot,
+    Fit,
+    Bar,
+    Load,
+    Row,
+    Weight,
+    End,
+}
 
-pub const BAR: u8 = 3;
+// A byte that is the first of no record.
+#[derive(Clone, Copy, PartialEq, Eq, Debug)]
+pub struct UnknownKind(pub u8);
 
-pub const LOAD: u8 = 4;
+impl TryFrom<u8> for Kind {
+    type Error = UnknownKind;
 
-pub const ROW: u8 = 5;
+    ghost try_from_gives = { IsKindOf };
 
-pub const WEIGHT: u8 = 6;
-
-pub const END: u8 = 7;
-
-// How many bytes of body a record of a kind has; 0 where there is no such kind.
-pub fn body_len(kind: u8) -> usize
-    ensures { result ≡ body_len kind }
-{
-    match kind {
-        SLOT => 1,
-        FIT | BAR => 9,
-        LOAD => 13,
-        ROW => 8,
-        WEIGHT => 4,
-        _ => 0,
+    fn try_from(code: u8) -> Result<Kind, UnknownKind> {
+        match code {
+            1 => Ok(Kind::Slot),
+            2 => Ok(Kind::Fit),
+            3 => Ok(Kind::Bar),
+            4 => Ok(Kind::Load),
+            5 => Ok(Kind::Row),
+            6 => Ok(Kind::Weight),
+            7 => Ok(Kind::End),
+            _ => Err(UnknownKind(code)),
+        }
     }
+}
+
+impl Kind {
+    // How many bytes of body a record of the kind has.
+    pub fn body_len(self) -> usize
+        ensures { result ≡ body_len (code_of self) }
+    {
+        match self {
+            Kind::Slot => 1,
+            Kind::Fit | Kind::Bar => 9,
+            Kind::Load => 13,
+            Kind::Row => 8,
+            Kind::Weight => 4,
+            Kind::End => 0,
+        }
+    }
+
+    // How many bytes a record of the kind has, its first one among them.
+    pub fn len(self) -> usize
+        ensures { result ≡ 1 + body_len (code_of self) }
+    {
+        1 + self.body_len()
+    }
+
+    // Whether it is the kind of a row or a weight.
+    pub fn is_entry(self) -> bool
+        ensures { result ≡ is_entry (code_of self) }
+    {
+        matches!(self, Kind::Row | Kind::Weight)
+    }
+
+    // The make of the sheets whose headers are of the kind, if it is a kind of header.
+    pub fn make(self) -> Option<Make>
+        ensures { result ≡ make_of self }
+    {
+        match self {
+            Kind::Fit => Some(Make::Fit),
+            Kind::Bar => Some(Make::Bar),
+            Kind::Load => Some(Make::Load),
+            _ => None,
+        }
+    }
+}
+
+// How many bytes of body follow a first byte; 0 where it is the first of no record.
+pub fn body_len(code: u8) -> usize
+    ensures { result ≡ body_len code }
+{
+    Kind::try_from(code).map_or(0, |kind| kind.body_len())
 }

@@ -7,5 +7,6 @@ pub mod counts;
 pub mod fault;
 pub mod kind;
 pub mod make;
+mod sheets;
 pub mod view;
 pub mod wording;

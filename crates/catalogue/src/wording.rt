@@ -1,9 +1,10 @@
-// How what a check answers is put into words: one line, without its end.
+// How what a check answers is put into words: one line, without its end. And the words of layers and makes.
 ghost use Rattle.std.specs.Prelude.{Some};
-ghost use Rattle.catalogue.specs.Wording.{layer_word, counts_line, fault_line};
+ghost use Rattle.catalogue.specs.Wording.{layer_word, make_word, counts_line, fault_line};
 
 use crate::counts::Counts;
 use crate::fault::{Fault, Layer};
+use crate::make::Make;
 use std::fmt;
 
 impl fmt::Display for Layer {
@@ -14,6 +15,18 @@ impl fmt::Display for Layer {
             Layer::Record => write!(f, "record"),
             Layer::Sheet => write!(f, "sheet"),
             Layer::Catalogue => write!(f, "catalogue"),
+        }
+    }
+}
+
+impl fmt::Display for Make {
+    ghost output = { λ m. Some (make_word m) };
+
+    fn fmt<W: fmt::Write>(&self, f: &mut fmt::Formatter<W>) -> fmt::Result {
+        match self {
+            Make::Fit => write!(f, "fit"),
+            Make::Bar => write!(f, "bar"),
+            Make::Load => write!(f, "load"),
         }
     }
 }

@@ -1,5 +1,5 @@
 -- What is left of a file, judged from what was said so far, gives its verdict. Assumes nothing.
-use Rattle.std.proofs.Common.{◌≡◌, ℕ, suc, ◌+◌, ◌-◌, ◌<◌, ◌≤◌, true, false, List, [], ◌∷◌, length, Ok, Err, Result, sym, refl, ap, ◌∙◌, arith}
+use Rattle.std.proofs.Common.{◌≡◌, ℕ, suc, ◌+◌, ◌-◌, ◌<◌, ◌≤◌, true, false, List, [], ◌∷◌, length, Ok, Err, Result, sym, refl, ap, ◌∙◌, subst, arith}
 use Rattle.catalogue.specs.declared.counts.Counts.{Counts}
 use Rattle.catalogue.specs.declared.fault.Fault.{Fault}
 use Rattle.checker.specs.declared.progress.Progress.{Progress}
@@ -108,7 +108,11 @@ module _ (bs : List ℕ) (at : ℕ) (p : Progress) (in' : at ≤ length bs) (h :
     pub refused_there : (f : Fault) → Steps bs at x (Err f) p q → Err f ≡ verdict bs
     refused_there f e = refused bs at h.said in' h.left x is f (e h.said h.shows).is
 
-    pub goes_there : Inner x → 0 < size_of x → Steps bs at x fine p q → Reached bs (at + size_of x) q
+    goes_there : Inner x → 0 < size_of x → Steps bs at x fine p q → Reached bs (at + size_of x) q
     goes_there i some e =
         let t = e h.said h.shows in
         record { said = after h.said x; shows = t.shows refl; left = goes_on bs at h.said in' h.left x i is t.is some }
+
+    -- the same, where the record's size is known by another term
+    pub goes_by : Inner x → 0 < size_of x → Steps bs at x fine p q → (size : ℕ) → size ≡ size_of x → Reached bs (at + size) q
+    goes_by i some e size same = subst (λ n. Reached bs (at + n) q) (sym same) (goes_there i some e)

@@ -1,23 +1,22 @@
 -- What one record more does to what a check's state shows. Assumes nothing.
-use Rattle.std.proofs.Common.{◌≡◌, ℕ, zero, suc, ◌+◌, ◌-◌, ◌*◌, ◌<◌, ◌≤◌, Bool, true, false, not, ◌&&◌, leb, List, [], ◌∷◌, ◌++◌, length, take, drop, is_some, Some, None, Ok, Option, sym, refl, ap, ◌∙◌, subst, mul-zero, mul-suc, arith, lit<, lit≤, length-append}
+use Rattle.std.proofs.Common.{◌≡◌, ℕ, zero, suc, ◌+◌, ◌*◌, ◌<◌, ◌≤◌, Bool, true, false, not, ◌&&◌, leb, List, [], ◌∷◌, ◌++◌, length, take, drop, is_some, Some, None, Ok, Option, sym, refl, ap, ◌∙◌, subst, mul-zero, mul-suc, arith, lit<, lit≤, length-append}
 use Rattle.std.proofs.lemmas.List.{take-take}
 use Rattle.std.proofs.lemmas.Bool.{false≢true}
 use Rattle.std.proofs.lemmas.Bool.Decides.{nat_tests}
-use borrow.Rule.Slice.PartMut.{mid_of}
 use Rattle.catalogue.specs.declared.make.Make.{Make}
 use Rattle.catalogue.specs.declared.make.Make.TheVariants.{Fit, Bar, Load}
-use Rattle.checker.specs.declared.progress.Progress.{Progress}
+use Rattle.checker.specs.declared.progress.Newest.{Newest as NewestSheet}
 use Rattle.catalogue.specs.Content.{Sheet, Weight, rows_in, loads_in, is_one, place, places}
 use Rattle.catalogue.specs.Records.{header_size}
 use Rattle.catalogue.specs.Checks.{listed, has_list, well_filled, well_sized, well_scoped, scope_of, well_weighed, weight_of, is_load, takes_rows, takes_weights, scope_in, rows_of, places_of, add_row, add_weight, fresh}
 use Rattle.checker.specs.Model.{Part, parts_from, head_len, row_read, weight_read, scope_read}
-use Rattle.checker.specs.Steps.{Newest, Held, rows_under, weights_under, loads_with, step_of, key_len, keys_of}
+use Rattle.checker.specs.Steps.{Newest, Held, loads_with, step_of, key_len, keys_of}
 
 -- where there is no sheet yet, there is none after a slot
-pub still_none : (bs : List ℕ) (at to : ℕ) (p q : Progress) (m : Option Make) (o : Option Sheet) → is_some m ≡ false → Newest bs at p m o → Newest bs to q m o
-still_none bs at to p q None None e h = tt
-still_none bs at to p q None (Some t) e h = h
-still_none bs at to p q (Some m) o e h = let z : ◌≡◌ {A = ℕ} 0 1 = cc in absurd (omega arith)
+pub still_none : (bs : List ℕ) (at to : ℕ) (m : Option NewestSheet) (o : Option Sheet) → is_some m ≡ false → Newest bs at m o → Newest bs to m o
+still_none bs at to None None e h = tt
+still_none bs at to None (Some t) e h = h
+still_none bs at to (Some m) o e h = let z : ◌≡◌ {A = ℕ} 0 1 = cc in absurd (omega arith)
 
 -- the counts of a list of sheets with more behind it
 pub rows_append : (xs ys : List Sheet) → rows_in (xs ++ ys) ≡ rows_in xs + rows_in ys
@@ -33,6 +32,13 @@ pub record RowMore (xs : List Sheet) (o : Option Sheet) (b : List ℕ) : Type 0 
   pub sheets : length (xs ++ listed (add_row b o)) ≡ length (xs ++ listed o)
   pub loads : loads_in (xs ++ listed (add_row b o)) ≡ loads_in (xs ++ listed o)
   pub rows : rows_in (xs ++ listed (add_row b o)) ≡ rows_in (xs ++ listed o) + 1
+
+-- a sheet with one record more
+abbrev with_row : List ℕ → Sheet → Sheet
+with_row b t = record { make = t.make; scope = t.scope; «cap» = t.«cap»; rows = t.rows ++ take (length t.scope) b ∷ []; weights = t.weights }
+
+abbrev with_weight : List ℕ → Sheet → Sheet
+with_weight b t = record { make = t.make; scope = t.scope; «cap» = t.«cap»; rows = t.rows; weights = t.weights ++ weight_of b ∷ [] }
 
 row_more : (xs : List Sheet) (t : Sheet) (b : List ℕ) → RowMore xs (Some t) b
 row_more xs t b =
@@ -77,83 +83,110 @@ places_push [] (x ∷ []) l = absurd (omega arith)
 places_push [] (x ∷ y ∷ b) l = refl
 places_push (w ∷ ws) b l = ap (λ r. place w ∷ r) (places_push ws b l)
 
--- What the tests of a row are by the state: those of the records before.
-module _ (bs : List ℕ) (at : ℕ) (p : Progress) where
-  pub takes_rows_lem : (m : Option Make) (o : Option Sheet) → Newest bs at p m o → takes_rows o ≡ rows_under m
-  takes_rows_lem None None h = refl
-  takes_rows_lem None (Some t) h = absurd h
-  takes_rows_lem (Some m) None h = absurd h
-  takes_rows_lem (Some m) (Some t) h = ap (λ k. not (is_load k)) h.make
+-- the newest sheet of what was said, where the state has one
+pub record Here (bs : List ℕ) (at : ℕ) (n : NewestSheet) (o : Option Sheet) : Type 0 where
+  pub sheet : Sheet
+  pub is : o ≡ Some sheet
+  pub held : Held bs at n sheet
 
-  pub takes_weights_lem : (m : Option Make) (o : Option Sheet) → Newest bs at p m o → takes_weights o ≡ weights_under m
-  takes_weights_lem None None h = refl
-  takes_weights_lem None (Some t) h = absurd h
-  takes_weights_lem (Some m) None h = absurd h
-  takes_weights_lem (Some m) (Some t) h = ap is_load h.make
+pub here : (bs : List ℕ) (at : ℕ) (n : NewestSheet) (o : Option Sheet) → Newest bs at (Some n) o → Here bs at n o
+here bs at n None h = absurd h
+here bs at n (Some t) h = record { sheet = t; is = refl; held = h }
 
-  pub scope_shown : (m : Option Make) (o : Option Sheet) → Newest bs at p m o → is_some m ≡ true → scope_in o ≡ p.scope.now
-  scope_shown None o h e = let z : ◌≡◌ {A = ℕ} 0 1 = cc in absurd (omega arith)
-  scope_shown (Some m) None h e = absurd h
-  scope_shown (Some m) (Some t) h e = sym h.scope
+-- what a make that takes rows says of its records
+record OfRows (m : Make) : Type 0 where
+  step : step_of m ≡ 9
+  len : (ss : List ℕ) → key_len m ss ≡ length ss
+  keys : (t : Sheet) → keys_of m t ≡ t.rows
 
-  -- an earlier record of the sheet has the same key, by the search among the records before
-  stood : (m : Make) (t : Sheet) (r : Bool) (key key' : List ℕ) → Held bs at p m t → key ≡ key' → length key ≡ key_len m t.scope → ((n : ℕ) → p.first + step_of m * n ≡ at → r ≡ has_list key (parts_from bs (length key) (step_of m) p.first n)) → r ≡ has_list key' (keys_of m t)
-  stood m t r key key' h k l f =
-      f h.number h.reaches ∙ ap (λ i. has_list key (parts_from bs i (step_of m) p.first h.number)) l ∙ ap (has_list key) h.parts ∙ ap (λ x. has_list x (keys_of m t)) k
+of_rows : (m : Make) → is_load m ≡ false → OfRows m
+of_rows Fit e = record { step = refl; len = λ ss. refl; keys = λ t. refl }
+of_rows Bar e = record { step = refl; len = λ ss. refl; keys = λ t. refl }
+of_rows Load e = never (sym e)
 
-  pub row_stood : (m : Option Make) (o : Option Sheet) (r : Bool) (b key : List ℕ) → Newest bs at p m o → rows_under m ≡ true → key ≡ take (length p.scope.now) b → length key ≡ length p.scope.now → ((n : ℕ) → p.first + 9 * n ≡ at → r ≡ has_list key (parts_from bs (length key) 9 p.first n)) → r ≡ has_list (take (length (scope_in o)) b) (rows_of o)
-  row_stood None o r b key h e k l f = never e
-  row_stood (Some m) None r b key h e k l f = absurd h
-  row_stood (Some Fit) (Some t) r b key h e k l f = stood Fit t r key (take (length t.scope) b) h (k ∙ ap (λ ss. take (length ss) b) h.scope) (l ∙ ap length h.scope) f
-  row_stood (Some Bar) (Some t) r b key h e k l f = stood Bar t r key (take (length t.scope) b) h (k ∙ ap (λ ss. take (length ss) b) h.scope) (l ∙ ap length h.scope) f
-  row_stood (Some Load) (Some t) r b key h e k l f = never e
+-- and one that takes weights
+record OfWeights (m : Make) : Type 0 where
+  step : step_of m ≡ 5
+  len : (ss : List ℕ) → key_len m ss ≡ 2
+  keys : (t : Sheet) → keys_of m t ≡ places t.weights
 
-  pub weight_stood : (m : Option Make) (o : Option Sheet) (r : Bool) (b key : List ℕ) → Newest bs at p m o → weights_under m ≡ true → key ≡ take 2 b → length key ≡ 2 → ((n : ℕ) → p.first + 5 * n ≡ at → r ≡ has_list key (parts_from bs (length key) 5 p.first n)) → r ≡ has_list (take 2 b) (places_of o)
-  weight_stood None o r b key h e k l f = never e
-  weight_stood (Some m) None r b key h e k l f = absurd h
-  weight_stood (Some Fit) (Some t) r b key h e k l f = never e
-  weight_stood (Some Bar) (Some t) r b key h e k l f = never e
-  weight_stood (Some Load) (Some t) r b key h e k l f = stood Load t r key (take 2 b) h k l f
+of_weights : (m : Make) → is_load m ≡ true → OfWeights m
+of_weights Fit e = never e
+of_weights Bar e = never e
+of_weights Load e = record { step = refl; len = λ ss. refl; keys = λ t. refl }
 
--- The newest sheet with one record more, which lies at the place.
-module _ (bs : List ℕ) (at : ℕ) (p q : Progress) (scope : q.scope ≡ p.scope) (first : q.first ≡ p.first) where
-  grown : (m : Make) (t u : Sheet) (size : ℕ) (b : List ℕ) → Part bs at size b → key_len m t.scope ≤ size → u.make ≡ t.make → u.scope ≡ t.scope → keys_of m u ≡ keys_of m t ++ take (key_len m t.scope) b ∷ [] → Held bs at p m t → Held bs (at + step_of m) q m u
-  grown m t u size b part short make same keys h =
+-- a search among the records before a place, where it begins and the size of the records are known by other terms
+pub search_at : (bs key : List ℕ) (r : Bool) (at first from step size : ℕ) → first ≡ from → step ≡ size → ((k : ℕ) → first + step * k ≡ at → r ≡ has_list key (parts_from bs (length key) step first k)) → (k : ℕ) → from + size * k ≡ at → r ≡ has_list key (parts_from bs (length key) size from k)
+search_at bs key r at first from step size e f g =
+    subst (λ i. (k : ℕ) → i + size * k ≡ at → r ≡ has_list key (parts_from bs (length key) size i k)) e
+    (subst (λ s. (k : ℕ) → first + s * k ≡ at → r ≡ has_list key (parts_from bs (length key) s first k)) f g)
+
+module _ (bs : List ℕ) (at : ℕ) (n : NewestSheet) where
+  -- What the tests of a row or a weight are by the state.
+  module _ (o : Option Sheet) (h : Here bs at n o) where
+    pub rows_under : (b : Bool) → is_load n.make ≡ b → takes_rows o ≡ not b
+    rows_under b e = ap takes_rows h.is ∙ ap (λ k. not (is_load k)) h.held.make ∙ ap not e
+
+    pub weights_under : (b : Bool) → is_load n.make ≡ b → takes_weights o ≡ b
+    weights_under b e = ap takes_weights h.is ∙ ap is_load h.held.make ∙ e
+
+    pub scope_shown : scope_in o ≡ n.scope.now
+    scope_shown = ap scope_in h.is ∙ sym h.held.scope
+
+    -- an earlier record of the sheet has the same key, by the search among the records before
+    stood : (r : Bool) (key : List ℕ) (step : ℕ) (keys : List (List ℕ)) → step_of n.make ≡ step → length key ≡ key_len n.make h.sheet.scope → keys_of n.make h.sheet ≡ keys → ((k : ℕ) → n.first + step * k ≡ at → r ≡ has_list key (parts_from bs (length key) step n.first k)) → r ≡ has_list key keys
+    stood r key step keys e l k f =
+        let t = h.held in
+        let g = subst (λ s. (k : ℕ) → n.first + s * k ≡ at → r ≡ has_list key (parts_from bs (length key) s n.first k)) (sym e) f in
+        g t.number t.reaches ∙ ap (λ i. has_list key (parts_from bs i (step_of n.make) n.first t.number)) l ∙ ap (has_list key) t.parts ∙ ap (has_list key) k
+
+    pub row_stood : is_load n.make ≡ false → (r : Bool) (b key : List ℕ) → key ≡ take (length n.scope.now) b → length key ≡ length n.scope.now → ((k : ℕ) → n.first + 9 * k ≡ at → r ≡ has_list key (parts_from bs (length key) 9 n.first k)) → r ≡ has_list (take (length (scope_in o)) b) (rows_of o)
+    row_stood e r b key k l f =
+        let w = of_rows n.make e in
+        stood r key 9 h.sheet.rows w.step (l ∙ ap length h.held.scope ∙ sym (w.len h.sheet.scope)) (w.keys h.sheet) f ∙ ap (λ x. has_list x h.sheet.rows) (k ∙ ap (λ ss. take (length ss) b) (sym scope_shown)) ∙ ap (λ x. has_list (take (length (scope_in o)) b) (rows_of x)) (sym h.is)
+
+    pub weight_stood : is_load n.make ≡ true → (r : Bool) (b key : List ℕ) → key ≡ take 2 b → length key ≡ 2 → ((k : ℕ) → n.first + 5 * k ≡ at → r ≡ has_list key (parts_from bs (length key) 5 n.first k)) → r ≡ has_list (take 2 b) (places_of o)
+    weight_stood e r b key k l f =
+        let w = of_weights n.make e in
+        stood r key 5 (places h.sheet.weights) w.step (l ∙ sym (w.len h.sheet.scope)) (w.keys h.sheet) f ∙ ap (λ x. has_list x (places h.sheet.weights)) k ∙ ap (λ x. has_list (take 2 b) (places_of x)) (sym h.is)
+
+  -- The newest sheet with one record more, which lies at the place.
+  grown : (t u : Sheet) (size : ℕ) (b : List ℕ) → Part bs at size b → key_len n.make t.scope ≤ size → u.make ≡ t.make → u.scope ≡ t.scope → keys_of n.make u ≡ keys_of n.make t ++ take (key_len n.make t.scope) b ∷ [] → Held bs at n t → Held bs (at + step_of n.make) n u
+  grown t u size b part short make same keys h =
+      let m = n.make in
       record {
         make = make ∙ h.make;
-        scope = ap (λ r. r.now) scope ∙ h.scope ∙ sym same;
+        scope = h.scope ∙ sym same;
         number = suc h.number;
-        reaches = ap (λ f. f + step_of m * suc h.number) first ∙ omega (arith, h.reaches, mul-suc (step_of m) h.number);
+        reaches = omega (arith, h.reaches, mul-suc (step_of m) h.number);
         parts =
-            ap (λ ss. parts_from bs (key_len m ss) (step_of m) q.first (suc h.number)) same ∙ ap (λ f. parts_from bs (key_len m t.scope) (step_of m) f (suc h.number)) first ∙ part_push bs (key_len m t.scope) (step_of m) p.first h.number at size b h.reaches part short ∙ ap (λ l. l ++ take (key_len m t.scope) b ∷ []) h.parts ∙ sym keys;
+            ap (λ ss. parts_from bs (key_len m ss) (step_of m) n.first (suc h.number)) same ∙ part_push bs (key_len m t.scope) (step_of m) n.first h.number at size b h.reaches part short ∙ ap (λ l. l ++ take (key_len m t.scope) b ∷ []) h.parts ∙ sym keys;
       }
 
-  pub row_newest : (m : Option Make) (o : Option Sheet) (b : List ℕ) → Newest bs at p m o → rows_under m ≡ true → Part bs at 8 b → length p.scope.now ≤ 8 → Newest bs (at + 9) q m (add_row b o)
-  row_newest None o b h e part l = never e
-  row_newest (Some m) None b h e part l = absurd h
-  row_newest (Some Fit) (Some t) b h e part l = grown Fit t _ 8 b part (subst (λ ss. length ss ≤ 8) h.scope l) refl refl refl h
-  row_newest (Some Bar) (Some t) b h e part l = grown Bar t _ 8 b part (subst (λ ss. length ss ≤ 8) h.scope l) refl refl refl h
-  row_newest (Some Load) (Some t) b h e part l = never e
+  pub row_newest : (o : Option Sheet) (b : List ℕ) → Newest bs at (Some n) o → is_load n.make ≡ false → Part bs at 8 b → length n.scope.now ≤ 8 → Newest bs (at + 9) (Some n) (add_row b o)
+  row_newest None b h e part l = absurd h
+  row_newest (Some t) b h e part l =
+      let w = of_rows n.make e in
+      subst (λ s. Held bs (at + s) n (with_row b t)) w.step
+      (grown t (with_row b t) 8 b part (subst (λ k. k ≤ 8) (ap length h.scope ∙ sym (w.len t.scope)) l) refl refl (w.keys (with_row b t) ∙ sym (ap (λ l. l ++ take (length t.scope) b ∷ []) (w.keys t)) ∙ ap (λ k. keys_of n.make t ++ take k b ∷ []) (sym (w.len t.scope))) h)
 
-  pub weight_newest : (m : Option Make) (o : Option Sheet) (b : List ℕ) → Newest bs at p m o → weights_under m ≡ true → Part bs at 4 b → Newest bs (at + 5) q m (add_weight b o)
-  weight_newest None o b h e part = never e
-  weight_newest (Some m) None b h e part = absurd h
-  weight_newest (Some Fit) (Some t) b h e part = never e
-  weight_newest (Some Bar) (Some t) b h e part = never e
-  weight_newest (Some Load) (Some t) b h e part = grown Load t _ 4 b part (lit≤ tt) refl refl (places_push t.weights b (omega (arith, part.long))) h
+  pub weight_newest : (o : Option Sheet) (b : List ℕ) → Newest bs at (Some n) o → is_load n.make ≡ true → Part bs at 4 b → Newest bs (at + 5) (Some n) (add_weight b o)
+  weight_newest None b h e part = absurd h
+  weight_newest (Some t) b h e part =
+      let w = of_weights n.make e in
+      subst (λ s. Held bs (at + s) n (with_weight b t)) w.step
+      (grown t (with_weight b t) 4 b part (subst (λ k. k ≤ 4) (sym (w.len t.scope)) (lit≤ tt)) refl refl (w.keys (with_weight b t) ∙ places_push t.weights b (omega (arith, part.long)) ∙ sym (ap (λ l. l ++ take 2 b ∷ []) (w.keys t)) ∙ ap (λ k. keys_of n.make t ++ take k b ∷ []) (sym (w.len t.scope))) h)
 
--- the newest sheet is there where rows may follow
-pub row_counts : (bs : List ℕ) (at : ℕ) (p : Progress) (xs : List Sheet) (m : Option Make) (o : Option Sheet) (b : List ℕ) → Newest bs at p m o → rows_under m ≡ true → RowMore xs o b
-row_counts bs at p xs None o b h e = never e
-row_counts bs at p xs (Some m) None b h e = absurd h
-row_counts bs at p xs (Some m) (Some t) b h e = row_more xs t b
+  -- the newest sheet is there where rows may follow
+  pub row_counts : (xs : List Sheet) (o : Option Sheet) (b : List ℕ) → Here bs at n o → RowMore xs o b
+  row_counts xs o b h = subst (λ x. RowMore xs x b) (sym h.is) (row_more xs h.sheet b)
 
 -- A header makes its sheet the newest.
-pub head_newest : (bs : List ℕ) (at : ℕ) (p : Progress) (m : Make) (b : List ℕ) → p.scope.now ≡ (fresh m b).scope → p.first ≡ at → Newest bs at p (Some m) (Some (fresh m b))
-head_newest bs at p m b scope first =
-    record { make = refl; scope = scope; number = 0; reaches = omega (arith, mul-zero (step_of m)); parts = no_keys m }
+pub head_newest : (bs : List ℕ) (at : ℕ) (n : NewestSheet) (b : List ℕ) → n.scope.now ≡ (fresh n.make b).scope → n.first ≡ at → Newest bs at (Some n) (Some (fresh n.make b))
+head_newest bs at n b scope first =
+    record { make = refl; scope = scope; number = 0; reaches = omega (arith, mul-zero (step_of n.make)); parts = no_keys n.make }
   where
-    no_keys : (k : Make) → [] ≡ keys_of k (fresh m b)
+    no_keys : (k : Make) → [] ≡ keys_of k (fresh n.make b)
     no_keys Fit = refl
     no_keys Bar = refl
     no_keys Load = refl
@@ -164,36 +197,24 @@ loads_with_lem Fit n k e = (omega (arith, some_is e), refl)
 loads_with_lem Bar n k e = (omega (arith, some_is e), refl)
 loads_with_lem Load n k e = (grind (arith, nat_tests), grind (arith, nat_tests))
 
-pub loads_full : (m : Make) (n : ℕ) → None ≡ loads_with n m → (is_load m && leb 8 n) ≡ true
-loads_full Fit n e = let z : ◌≡◌ {A = ℕ} 0 1 = cc in absurd (omega arith)
-loads_full Bar n e = let z : ◌≡◌ {A = ℕ} 0 1 = cc in absurd (omega arith)
-loads_full Load n e = grind (arith, nat_tests)
-
-pub some_under : (m : Option Make) → rows_under m ≡ true → is_some m ≡ true
-some_under None e = e
-some_under (Some m) e = refl
-
--- the options of the slots so far, as a part of the table
-front : (n : ℕ) (xs : List ℕ) → mid_of 0 (n - 0) xs ≡ take n xs
-front n xs = ap (λ k. take k xs) (omega arith)
-
 -- What a reading that went well tells.
-pub row_read_lem : (at n : ℕ) (os ss b key : List ℕ) → Ok key ≡ row_read at (mid_of 0 (n - 0) os) ss b → (well_filled (take n os) ss b ≡ true) × (key ≡ take (length ss) b)
-row_read_lem at n os ss b key e =
-    let f : Ok key ≡ row_read at (take n os) ss b = subst (λ xs. Ok key ≡ row_read at xs ss b) (front n os) e in
-    (grind (arith, nat_tests), grind (arith, nat_tests))
+pub row_read_lem : (at : ℕ) (os ss b key : List ℕ) → Ok key ≡ row_read at os ss b → (well_filled os ss b ≡ true) × (key ≡ take (length ss) b)
+row_read_lem at os ss b key e = (grind (arith, nat_tests), grind (arith, nat_tests))
 
-pub weight_read_lem : (at n : ℕ) (os ss b key : List ℕ) → Ok key ≡ weight_read at (mid_of 0 (n - 0) os) ss b → (well_weighed (take n os) ss (weight_of b) ≡ true) × (key ≡ take 2 b)
-weight_read_lem at n os ss b key e =
-    let f : Ok key ≡ weight_read at (take n os) ss b = subst (λ xs. Ok key ≡ weight_read at xs ss b) (front n os) e in
-    (grind (arith, nat_tests), grind (arith, nat_tests))
+pub weight_read_lem : (at : ℕ) (os ss b key : List ℕ) → Ok key ≡ weight_read at os ss b → (well_weighed os ss (weight_of b) ≡ true) × (key ≡ take 2 b)
+weight_read_lem at os ss b key e = (grind (arith, nat_tests), grind (arith, nat_tests))
 
 pub scope_read_lem : (at n : ℕ) (b ss : List ℕ) → Ok ss ≡ scope_read at n b → (well_sized b ≡ true) × (well_scoped n (scope_of b) ≡ true) × (ss ≡ scope_of b)
 scope_read_lem at n b ss e = (grind (arith, nat_tests), grind (arith, nat_tests), grind (arith, nat_tests))
 
-pub some_under_weights : (m : Option Make) → weights_under m ≡ true → is_some m ≡ true
-some_under_weights None e = e
-some_under_weights (Some m) e = refl
+-- of the makes, load alone takes weights
+pub load_is : (m : Make) → m ≡ Load → is_load m ≡ true
+load_is m e = ap is_load e
+
+pub load_is_not : (m : Make) → (m ≡ Load → ⊥) → is_load m ≡ false
+load_is_not Fit e = refl
+load_is_not Bar e = refl
+load_is_not Load e = absurd (e refl)
 
 -- a header ends where its sheet's records begin
 pub head_ends : (at : ℕ) (m : Make) (b : List ℕ) → length b ≡ head_len m → at + 1 + length b ≡ at + header_size m

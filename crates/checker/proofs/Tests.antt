@@ -1,40 +1,39 @@
--- What one turn of a loop tells of the tests of a list. Assumes nothing.
-use Rattle.std.proofs.Common.{◌≡◌, ℕ, zero, suc, ◌+◌, ◌*◌, ◌<◌, ◌≤◌, Bool, true, false, not, ◌&&◌, ◌||◌, eqb, ltb, List, [], ◌∷◌, length, get_or, take, drop, Decides, refl, ◌∙◌, subst, mul-zero, mul-suc, arith, rules}
-use Rattle.std.proofs.lemmas.List.{at_drop_more, at_drop_all}
+-- The tests of the program are those of the definitions. Assumes nothing.
+use Rattle.std.proofs.Common.{◌≡◌, ℕ, zero, suc, ◌+◌, ◌-◌, ◌*◌, ◌<◌, ◌≤◌, Bool, true, false, not, ◌&&◌, ◌||◌, eqb, ltb, List, [], ◌∷◌, length, get_or, take, drop, sym, refl, ap, ◌∙◌, mul-zero, mul-suc, arith}
+use Rattle.std.specs.List.{list_all, list_any, zip, starts_with}
+use Rattle.std.specs.declared.slice.ChunksExact.{ChunksExact}
+use Rattle.std.specs.Iterator.{AlwaysYields}
+use Rattle.std.proofs.lemmas.Iterator.{YieldsList}
+use Rattle.std.specs.Slice.Iter.{chunks_exact_steps, chunks_exact_size, chunks_exact_rest}
+use lib.Pointwise.{pointwise}
+use Rattle.std.proofs.lemmas.List.{drop-drop, drop-take, take-take, take_at, drop_at, length-drop, length-append}
 use Rattle.std.proofs.lemmas.Bool.{and_parts}
-use Rattle.std.proofs.lemmas.Bool.Decides.{nat_tests, same_from_decides}
-use Rattle.std.proofs.lemmas.Slice.Eq.{compares_Decides}
+use Rattle.std.proofs.lemmas.Bool.Decides.{nat_tests}
 use Rattle.catalogue.specs.Checks.{all, unused, has, same, has_list, well_scoped, well_filled}
 use Rattle.checker.specs.Model.{parts_from}
 
-pub all_more : (p : ℕ → Bool) (xs : List ℕ) (i : ℕ) → i < length xs → all p (drop i xs) ≡ (p (get_or xs i 0) && all p (drop (i + 1) xs))
-all_more p xs i h = at_drop_more (all p) xs i 0 h
+pub all_is : (p : ℕ → Bool) (xs : List ℕ) → list_all p xs ≡ all p xs
+all_is p [] = refl
+all_is p (x ∷ xs) = ap (λ b. p x && b) (all_is p xs)
 
-pub all_done : (p : ℕ → Bool) (xs : List ℕ) (i : ℕ) → length xs ≤ i → all p (drop i xs) ≡ true
-all_done p xs i h = at_drop_all (all p) xs i h
+pub has_is : (x : ℕ) (xs : List ℕ) → list_any (λ y. eqb y x) xs ≡ has x xs
+has_is x [] = refl
+has_is x (y ∷ xs) = let e = has_is x xs in grind (arith, nat_tests)
 
-pub has_more : (x : ℕ) (xs : List ℕ) (i : ℕ) → i < length xs → has x (drop i xs) ≡ (eqb x (get_or xs i 0) || has x (drop (i + 1) xs))
-has_more x xs i h = at_drop_more (has x) xs i 0 h
+-- a scope by its first slot and the others
+module _ (n x : ℕ) (xs left : List ℕ) (w : Bool) (is : left ≡ x ∷ xs) (all-of : well_scoped n left ≡ w) where
+  here : (ltb x n && (not (has x xs) && well_scoped n xs)) ≡ w
+  here = ap (well_scoped n) (sym is) ∙ all-of
 
-pub has_done : (x : ℕ) (xs : List ℕ) (i : ℕ) → length xs ≤ i → has x (drop i xs) ≡ false
-has_done x xs i h = at_drop_all (has x) xs i h
+  pub scoped_out : n ≤ x → false ≡ w
+  scoped_out h = let e = here in grind (arith, nat_tests)
 
-pub scoped_more : (n : ℕ) (xs : List ℕ) (i : ℕ) → i < length xs → well_scoped n (drop i xs) ≡ (ltb (get_or xs i 0) n && (not (has (get_or xs i 0) (drop (i + 1) xs)) && well_scoped n (drop (i + 1) xs)))
-scoped_more n xs i h = at_drop_more (well_scoped n) xs i 0 h
+  module _ (r : Bool) (named : r ≡ list_any (λ y. eqb y x) xs) where
+    pub scoped_twice : r ≡ true → false ≡ w
+    scoped_twice t = let e = here in let f : has x xs ≡ true = sym (has_is x xs) ∙ sym named ∙ t in grind (arith, nat_tests)
 
-pub scoped_done : (n : ℕ) (xs : List ℕ) (i : ℕ) → length xs ≤ i → well_scoped n (drop i xs) ≡ true
-scoped_done n xs i h = at_drop_all (well_scoped n) xs i h
-
-pub filled_more : (os ss xs : List ℕ) (i : ℕ) → i < length ss → i < length xs → well_filled os (drop i ss) (drop i xs) ≡ (ltb (get_or xs i 0) (get_or os (get_or ss i 0) 0) && well_filled os (drop (i + 1) ss) (drop (i + 1) xs))
-filled_more os ss xs i h k =
-    at_drop_more (λ s. well_filled os s (drop i xs)) ss i 0 h ∙ at_drop_more (λ x. well_filled os (get_or ss i 0 ∷ drop (i + 1) ss) x) xs i 0 k
-
-pub filled_short : (os ss xs : List ℕ) (i : ℕ) → i < length ss → length xs ≤ i → well_filled os (drop i ss) (drop i xs) ≡ false
-filled_short os ss xs i h k =
-    at_drop_more (λ s. well_filled os s (drop i xs)) ss i 0 h ∙ at_drop_all (λ x. well_filled os (get_or ss i 0 ∷ drop (i + 1) ss) x) xs i k
-
-pub filled_done : (os ss xs : List ℕ) (i : ℕ) → length ss ≤ i → well_filled os (drop i ss) (drop i xs) ≡ all unused (drop i xs)
-filled_done os ss xs i h = at_drop_all (λ s. well_filled os s (drop i xs)) ss i h
+    pub scoped_on : x < n → r ≡ false → well_scoped n xs ≡ w
+    scoped_on h t = let e = here in let f : has x xs ≡ false = sym (has_is x xs) ∙ sym named ∙ t in grind (arith, nat_tests)
 
 -- a row that is filled has a byte for each slot
 pub filled_long : (os ss xs : List ℕ) → well_filled os ss xs ≡ true → length ss ≤ length xs
@@ -42,40 +41,79 @@ filled_long os [] xs e = omega arith
 filled_long os (s ∷ ss) [] e = let z : ◌≡◌ {A = ℕ} 0 1 = cc in absurd (omega arith)
 filled_long os (s ∷ ss) (x ∷ xs) e = omega (arith, filled_long os ss xs (and_parts _ _ e).1)
 
--- a comparison of two slices is the test of the lists
-pub same_is : (xs ys zs : List ℕ) (r : Bool) → ys ≡ zs → Decides r (xs ≡ ys) → r ≡ same xs zs
-same_is xs ys zs r e d =
-    same_from_decides r (same xs zs) (subst (λ l. Decides r (xs ≡ l)) e d) (compares_Decides same (search rules) xs zs)
-
--- what is left of the search among earlier records: from a place up to another, whatever their number is
-pub record Rests (bs : List ℕ) (key : List ℕ) (step from at to : ℕ) : Type 0 where
-  pub rests : (n : ℕ) → from + step * n ≡ to → (m : ℕ) × (at + step * m ≡ to) × (has_list key (parts_from bs (length key) step at m) ≡ has_list key (parts_from bs (length key) step from n))
-
-pub rests_all : (bs key : List ℕ) (step from to : ℕ) → Rests bs key step from from to
-rests_all bs key step from to = record { rests = λ n e. (n, e, refl) }
-
--- one record more is looked at
-module _ (bs key : List ℕ) (step from at to : ℕ) (w : Rests bs key step from at to) (some : 0 < step) (more : at + step ≤ to) where
-  abbrev Looked : ℕ → Type 0
-  Looked n = (m : ℕ) × (at + step + step * m ≡ to) × ((same key (take (length key) (drop (at + 1) bs)) || has_list key (parts_from bs (length key) step (at + step) m)) ≡ has_list key (parts_from bs (length key) step from n))
-
-  looked : (n m : ℕ) → at + step * m ≡ to → has_list key (parts_from bs (length key) step at m) ≡ has_list key (parts_from bs (length key) step from n) → Looked n
-  looked n zero f g = absurd (omega (arith, mul-zero step))
-  looked n (suc m) f g = (m, omega (arith, mul-suc step m), g)
-
-  looked_at : (n : ℕ) → from + step * n ≡ to → Looked n
-  looked_at n e = looked n (w.rests n e).0 (w.rests n e).1 (w.rests n e).2
-
-  pub rests_found : (r : Bool) → r ≡ same key (take (length key) (drop (at + 1) bs)) → r ≡ true → (n : ℕ) → from + step * n ≡ to → true ≡ has_list key (parts_from bs (length key) step from n)
-  rests_found r e t n f = let l = (looked_at n f).2 in grind (arith, nat_tests)
-
-  pub rests_more : (r : Bool) → r ≡ same key (take (length key) (drop (at + 1) bs)) → r ≡ false → Rests bs key step from (at + step) to
-  rests_more r e t = record { rests = λ n f. ((looked_at n f).0, (looked_at n f).1, (let l = (looked_at n f).2 in grind (arith, nat_tests))) }
-
--- no record is left to look at
-pub rests_none : (bs key : List ℕ) (step from at to : ℕ) → Rests bs key step from at to → to < at + step → (n : ℕ) → from + step * n ≡ to → false ≡ has_list key (parts_from bs (length key) step from n)
-rests_none bs key step from at to w none n e = by (w.rests n e).0 (w.rests n e).1 (w.rests n e).2
+pub filled_short : (os ss xs : List ℕ) → length xs < length ss → well_filled os ss xs ≡ false
+filled_short os ss xs h = by (well_filled os ss xs) refl
   where
-    by : (m : ℕ) → at + step * m ≡ to → has_list key (parts_from bs (length key) step at m) ≡ has_list key (parts_from bs (length key) step from n) → false ≡ has_list key (parts_from bs (length key) step from n)
-    by zero f g = g
-    by (suc m) f g = absurd (omega (arith, mul-suc step m))
+    by : (b : Bool) → well_filled os ss xs ≡ b → well_filled os ss xs ≡ false
+    by true e = absurd (let l = filled_long os ss xs e in omega arith)
+    by false e = e
+
+-- a row is filled where each of its fields is an option of its slot, and the rest is not used
+abbrev pub fits_slot : List ℕ → ℕ × ℕ → Bool
+fits_slot os p = ltb p.1 (get_or os p.0 0)
+
+pub filled_is : (os ss xs : List ℕ) → length ss ≤ length xs → (list_all (fits_slot os) (zip ss (take (length ss) xs)) && all unused (drop (length ss) xs)) ≡ well_filled os ss xs
+filled_is os [] xs h = refl
+filled_is os (s ∷ ss) [] h = absurd (omega arith)
+filled_is os (s ∷ ss) (x ∷ xs) h = and_assoc (fits_slot os (s, x)) _ _ ∙ ap (λ b. fits_slot os (s, x) && b) (filled_is os ss xs (omega arith))
+  where
+    and_assoc : (a b c : Bool) → ((a && b) && c) ≡ (a && (b && c))
+    and_assoc true b c = refl
+    and_assoc false b c = refl
+
+module _ (os ss xs : List ℕ) (long : length ss ≤ length xs) (r : Bool) (all-fit : r ≡ list_all (fits_slot os) (zip ss (take (length ss) xs))) where
+  whole : (b : Bool) → r ≡ b → (b && all unused (drop (length ss) xs)) ≡ well_filled os ss xs
+  whole b t = ap (λ c. c && all unused (drop (length ss) xs)) (sym t ∙ all-fit) ∙ filled_is os ss xs long
+
+  pub filled_then : (u : Bool) → r ≡ true → u ≡ all unused (drop (length ss) xs) → u ≡ well_filled os ss xs
+  filled_then u t e = e ∙ whole true t
+
+  pub filled_else : r ≡ false → r ≡ well_filled os ss xs
+  filled_else t = t ∙ whole false t
+
+-- the records of one size that bytes hold
+abbrev pub records : ℕ → ℕ → List ℕ → List (List ℕ)
+records size zero xs = []
+records size (suc n) xs = take size xs ∷ records size n (drop size xs)
+
+-- chunks of that size are those records
+pub chunks_yield : (size n : ℕ) (s : ChunksExact ℕ) (xs : List ℕ) → 0 < size → chunks_exact_size s ≡ size → chunks_exact_rest s ≡ xs → length xs ≡ size * n → YieldsList chunks_exact_steps (λ x. x.now) s (records size n xs)
+chunks_yield size n s xs some e f l = record { runs = each n s xs e f l }
+  where
+    each : (n : ℕ) (s : ChunksExact ℕ) (xs : List ℕ) → chunks_exact_size s ≡ size → chunks_exact_rest s ≡ xs → length xs ≡ size * n → AlwaysYields chunks_exact_steps (λ x. x.now) s (records size n xs)
+    each zero s xs e f l = λ x j g.
+        omega (arith, ap length (sym f ∙ g.1.0), length-append x.now (chunks_exact_rest j), g.1.1, e, some, mul-zero size)
+    each (suc n) s xs e f l = (
+      (λ j g. omega (arith, g.1.0, ap length f, e, mul-suc size n)),
+      λ x j g.
+          let parts = sym f ∙ g.1.0 in
+          let long = g.1.1 ∙ e in
+          let rest : drop size xs ≡ chunks_exact_rest j = ap (drop size) parts ∙ drop_at x.now (chunks_exact_rest j) size long in
+          (sym (ap (take size) parts ∙ take_at x.now (chunks_exact_rest j) size long), each n j (drop size xs) (g.0 ∙ e) (sym rest) (omega (arith, length-drop size xs, mul-suc size n))),
+    )
+
+-- a record that has the key behind its byte of kind
+abbrev pub keyed : List ℕ → List ℕ → Bool
+keyed key xs = starts_with eqb (drop 1 xs) key
+
+same_is : (xs ys : List ℕ) → pointwise eqb xs ys ≡ same xs ys
+same_is [] [] = refl
+same_is [] (y ∷ ys) = refl
+same_is (x ∷ xs) [] = refl
+same_is (x ∷ xs) (y ∷ ys) = ap (λ b. eqb x y && b) (same_is xs ys)
+
+-- the search among the records from a place on is that among their keys
+pub stood_from : (bs key : List ℕ) (size n from : ℕ) → length key < size → list_any (keyed key) (records size n (take (size * n) (drop from bs))) ≡ has_list key (parts_from bs (length key) size from n)
+stood_from bs key size zero from short = refl
+stood_from bs key size (suc n) from short =
+    let all = take (size * suc n) (drop from bs) in
+    let more : size * suc n ≡ size + size * n = omega (arith, mul-suc size n) in
+    let one : size ≡ 1 + (size - 1) = omega arith in
+    let first : take size all ≡ take size (drop from bs) = take-take size (size * suc n) (drop from bs) (omega arith) in
+    let behind : take (length key) (drop 1 (take size (drop from bs))) ≡ take (length key) (drop (from + 1) bs) = ap (λ k. take (length key) (drop 1 (take k (drop from bs)))) one ∙ ap (take (length key)) (drop-take 1 (size - 1) (drop from bs)) ∙ take-take (length key) (size - 1) (drop 1 (drop from bs)) (omega arith) ∙ ap (take (length key)) (drop-drop 1 from bs) in
+    let others : drop size all ≡ take (size * n) (drop (from + size) bs) = ap (λ k. drop size (take k (drop from bs))) more ∙ drop-take size (size * n) (drop from bs) ∙ ap (take (size * n)) (drop-drop size from bs) in
+    ap (λ xs. keyed key xs || list_any (keyed key) (records size n (drop size all))) first
+    ∙ ap (λ ys. pointwise eqb key ys || list_any (keyed key) (records size n (drop size all))) behind
+    ∙ ap (λ b. b || list_any (keyed key) (records size n (drop size all))) (same_is key (take (length key) (drop (from + 1) bs)))
+    ∙ ap (λ xs. same key (take (length key) (drop (from + 1) bs)) || list_any (keyed key) (records size n xs)) others
+    ∙ ap (λ b. same key (take (length key) (drop (from + 1) bs)) || b) (stood_from bs key size n (from + size) short)

@@ -1,12 +1,13 @@
 -- What the running state of a check shows, and what one step of it promises. Assumes nothing.
-use Rattle.std.specs.Prelude.{◌≡◌, ℕ, ◌+◌, ◌*◌, Bool, true, false, cond, not, List, length, take, is_ok, Some, None, Ok, Option, Result, nat_le}
+use Rattle.std.specs.Prelude.{◌≡◌, ℕ, ◌+◌, ◌*◌, true, cond, List, length, take, is_ok, Some, None, Ok, Option, Result, nat_le}
 use Rattle.catalogue.specs.declared.fault.Fault.{Fault}
 use Rattle.catalogue.specs.declared.make.Make.{Make}
 use Rattle.catalogue.specs.declared.make.Make.TheVariants.{Fit, Bar, Load}
 use Rattle.checker.specs.declared.progress.Progress.{Progress}
+use Rattle.checker.specs.declared.progress.Newest.{Newest as NewestSheet}
 use Rattle.catalogue.specs.Content.{Sheet, rows_in, loads_in, places}
 use Rattle.catalogue.specs.Records.{Rec, size_of, judged}
-use Rattle.catalogue.specs.Checks.{Said, sheets_of, checks, after, is_load}
+use Rattle.catalogue.specs.Checks.{Said, sheets_of, checks, after}
 use Rattle.catalogue.specs.Verdict.{behind}
 use Rattle.checker.specs.Model.{parts_from}
 
@@ -32,28 +33,19 @@ loads_with n Fit = Some n
 loads_with n Bar = Some n
 loads_with n Load = cond (nat_le 8 n) None (Some (n + 1))
 
--- what may follow, by the make of the newest sheet
-abbrev pub rows_under : Option Make → Bool
-rows_under None = false
-rows_under (Some m) = not (is_load m)
-
-abbrev pub weights_under : Option Make → Bool
-weights_under None = false
-weights_under (Some m) = is_load m
-
 -- the newest sheet, whose records stand from its first up to a place
-pub record Held (bs : List ℕ) (at : ℕ) (p : Progress) (m : Make) (t : Sheet) : Type 0 where
-  pub make : t.make ≡ m
-  pub scope : p.scope.now ≡ t.scope
+pub record Held (bs : List ℕ) (at : ℕ) (n : NewestSheet) (t : Sheet) : Type 0 where
+  pub make : t.make ≡ n.make
+  pub scope : n.scope.now ≡ t.scope
   pub number : ℕ
-  pub reaches : p.first + step_of m * number ≡ at
-  pub parts : parts_from bs (key_len m t.scope) (step_of m) p.first number ≡ keys_of m t
+  pub reaches : n.first + step_of n.make * number ≡ at
+  pub parts : parts_from bs (key_len n.make t.scope) (step_of n.make) n.first number ≡ keys_of n.make t
 
-abbrev pub Newest : List ℕ → ℕ → Progress → Option Make → Option Sheet → Type 0
-Newest bs at p None None = Unit {0}
-Newest bs at p None (Some t) = ⊥
-Newest bs at p (Some m) None = ⊥
-Newest bs at p (Some m) (Some t) = Held bs at p m t
+abbrev pub Newest : List ℕ → ℕ → Option NewestSheet → Option Sheet → Type 0
+Newest bs at None None = Unit {0}
+Newest bs at None (Some t) = ⊥
+Newest bs at (Some n) None = ⊥
+Newest bs at (Some n) (Some t) = Held bs at n t
 
 -- the state shows what the records before a place have said
 pub record Shows (bs : List ℕ) (at : ℕ) (p : Progress) (s : Said) : Type 0 where
@@ -61,7 +53,7 @@ pub record Shows (bs : List ℕ) (at : ℕ) (p : Progress) (s : Said) : Type 0 w
   pub sheets : p.sheets ≡ length (sheets_of s)
   pub loads : p.loads ≡ loads_in (sheets_of s)
   pub rows : p.rows ≡ rows_in (sheets_of s)
-  pub newest : Newest bs at p p.make s.newest
+  pub newest : Newest bs at p.newest s.newest
 
 -- a step answers what the record's checks say, and then shows one record more
 pub record Stepped (bs : List ℕ) (at : ℕ) (x : Rec) (r : Result (Unit {0}) Fault) (q : Progress) (s : Said) : Type 0 where

@@ -6,8 +6,8 @@ ghost use Rattle.std.specs.Prelude.{◌≡◌, true, IfOk, Ok, Err};
 ghost use Rattle.catalogue.specs.Verdict.{verdict, accepts};
 ghost use Rattle.catalogue.specs.Law.{Means, Octets};
 
+mod checks;
 mod entry;
-mod faults;
 mod progress;
 mod read;
 mod record;
@@ -20,6 +20,7 @@ use crate::sheet::entry;
 use catalogue::checked::Catalogue;
 use catalogue::counts::Counts;
 use catalogue::fault::Fault;
+use catalogue::kind::Kind;
 
 // How much the file holds, or its first fault.
 fn verify(bytes: &[u8]) -> Result<Counts, Fault>
@@ -31,7 +32,7 @@ fn verify(bytes: &[u8]) -> Result<Counts, Fault>
         match entry(bytes, at)? {
             Entry::Slot(body) => {
                 progress.add_slot(body, at)?;
-                at += 2;
+                at += Kind::Slot.len();
             }
             Entry::Header(make, body) => {
                 progress.add_header(make, body, at)?;
@@ -39,11 +40,11 @@ fn verify(bytes: &[u8]) -> Result<Counts, Fault>
             }
             Entry::Row(body) => {
                 progress.add_row(bytes, body, at)?;
-                at += 9;
+                at += Kind::Row.len();
             }
             Entry::Weight(body) => {
                 progress.add_weight(bytes, body, at)?;
-                at += 5;
+                at += Kind::Weight.len();
             }
             Entry::End => return progress.finish(bytes, at),
         }

@@ -14,9 +14,14 @@ pub struct Progress<'a> {
     pub(crate) sheets: u8,
     pub(crate) loads: u8,
     pub(crate) rows: u16,
-    // The newest sheet: its make, its slots, and where its first row or weight would stand.
-    pub(crate) make: Option<Make>,
+    pub(crate) newest: Option<Newest<'a>>,
+    ghost room: { slots ≤ 48 },
+}
+
+// The newest sheet: its make, its slots, and where its first row or weight would stand.
+#[derive(Clone, Copy)]
+pub struct Newest<'a> {
+    pub(crate) make: Make,
     pub(crate) scope: &'a [u8],
     pub(crate) first: usize,
-    ghost room: { slots ≤ 48 },
 }

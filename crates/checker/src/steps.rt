@@ -1,16 +1,17 @@
 // The catalogue layer: one entry after another, and what may stand where.
-ghost use Rattle.std.specs.Prelude.{◌≡◌, ℕ, ◌+◌, ◌^◌, ◌<◌, ◌≤◌, List, length, Ok};
+ghost use Rattle.std.specs.Prelude.{◌≡◌, ℕ, ◌+◌, ◌^◌, ◌<◌, ◌≤◌, List, length, take, Ok};
 ghost use Rattle.catalogue.specs.Records.{slot, header, row, weight, end, judged};
 ghost use Rattle.catalogue.specs.Checks.{Said, nothing, content_of, checks};
 ghost use Rattle.catalogue.specs.Verdict.{behind, counts_of};
 ghost use Rattle.checker.specs.Model.{Part, head_len};
-ghost use Rattle.checker.specs.Steps.{Shows, Steps, loads_with, rows_under, weights_under};
+ghost use Rattle.checker.specs.Steps.{Shows, Steps, loads_with};
 
-use crate::faults::{catalogue_fault, sheet_fault};
-use crate::progress::Progress;
-use crate::sheet::{options_of, row_of, scope_of, stood_before, weight_of};
+use crate::checks::Check;
+use crate::progress::{Newest, Progress};
+use crate::sheet::{Frame, options_of, scope_of, stood_before};
 use catalogue::counts::Counts;
 use catalogue::fault::Fault;
+use catalogue::kind::Kind;
 use catalogue::make::Make;
 
 const SLOTS: u8 = 48;
@@ -20,11 +21,6 @@ const SHEETS: u8 = 64;
 const LOADS: u8 = 8;
 
 const ROWS: u16 = 4096;
-
-// How many bytes a row and a weight have, with the byte of kind.
-const ROW: usize = 9;
-
-const WEIGHT: usize = 5;
 
 impl<'a> Progress<'a> {
     // Nothing seen yet.
@@ -37,9 +33,18 @@ impl<'a> Progress<'a> {
             sheets: 0,
             loads: 0,
             rows: 0,
-            make: None,
-            scope: &[],
-            first: 0,
+            newest: None,
+        }
+    }
+
+    // What records are held against in a sheet with these slots.
+    fn frame<'s>(&'s self, scope: &'s [u8]) -> Frame<'s>
+        ensures options { result.options.now ≡ take self.now.slots self.now.options }
+        ensures scope { result.scope.now ≡ scope.now }
+    {
+        Frame {
+            options: &self.options[..usize::from(self.slots)],
+            scope,
         }
     }
 
@@ -48,14 +53,14 @@ impl<'a> Progress<'a> {
         requires { length body.now ≡ 1 }
         ensures { (bs : List ℕ) → Steps bs at (slot body.now) result self.old self.new }
     {
-        if self.make.is_some() {
-            return Err(catalogue_fault(4, at));
+        if self.newest.is_some() {
+            return Err(Check::InPlace.at(at));
         }
         if self.slots >= SLOTS {
-            return Err(catalogue_fault(5, at));
+            return Err(Check::WithinLimit.at(at));
         }
         let n = options_of(body, at)?;
-        self.options[self.slots as usize] = n;
+        self.options[usize::from(self.slots)] = n;
         self.slots += 1;
         Ok(())
     }
@@ -67,17 +72,16 @@ impl<'a> Progress<'a> {
         ensures { (bs : List ℕ) → Steps bs at (header make body.now) result self.old self.new }
     {
         if self.sheets >= SHEETS {
-            return Err(catalogue_fault(5, at));
+            return Err(Check::WithinLimit.at(at));
         }
         let Some(loads) = loads_with(self.loads, make) else {
-            return Err(catalogue_fault(5, at));
+            return Err(Check::WithinLimit.at(at));
         };
         let scope = scope_of(body, self.slots, at)?;
         self.sheets += 1;
         self.loads = loads;
-        self.make = Some(make);
-        self.scope = scope;
-        self.first = at + 1 + body.len();
+        let first = at + 1 + body.len();
+        self.newest = Some(Newest { make, scope, first });
         Ok(())
     }
 
@@ -86,16 +90,17 @@ impl<'a> Progress<'a> {
         requires { Part bytes.now at 8 body.now }
         ensures { Steps bytes.now at (row body.now) result self.old self.new }
     {
-        if !takes_rows(self.make) {
-            return Err(catalogue_fault(4, at));
-        }
+        let newest = self.newest;
+        let sheet = match newest {
+            Some(sheet) if sheet.make != Make::Load => sheet,
+            _ => return Err(Check::InPlace.at(at)),
+        };
         if self.rows >= ROWS {
-            return Err(catalogue_fault(5, at));
+            return Err(Check::WithinLimit.at(at));
         }
-        let options = &self.options[0..self.slots as usize];
-        let key = row_of(options, self.scope, body, at)?;
-        if stood_before(bytes, self.first, at, ROW, key) {
-            return Err(sheet_fault(10, at));
+        let key = self.frame(sheet.scope).row_of(body, at)?;
+        if stood_before(bytes, sheet.first, at, Kind::Row.len(), key) {
+            return Err(Check::RowOnce.at(at));
         }
         self.rows += 1;
         Ok(())
@@ -106,13 +111,13 @@ impl<'a> Progress<'a> {
         requires { Part bytes.now at 4 body.now }
         ensures { Steps bytes.now at (weight body.now) result self.now self.now }
     {
-        if !takes_weights(self.make) {
-            return Err(catalogue_fault(4, at));
-        }
-        let options = &self.options[0..self.slots as usize];
-        let key = weight_of(options, self.scope, body, at)?;
-        if stood_before(bytes, self.first, at, WEIGHT, key) {
-            return Err(sheet_fault(12, at));
+        let sheet = match self.newest {
+            Some(sheet) if sheet.make == Make::Load => sheet,
+            _ => return Err(Check::InPlace.at(at)),
+        };
+        let key = self.frame(sheet.scope).weight_of(body, at)?;
+        if stood_before(bytes, sheet.first, at, Kind::Weight.len(), key) {
+            return Err(Check::WeightOnce.at(at));
         }
         Ok(())
     }
@@ -123,10 +128,10 @@ impl<'a> Progress<'a> {
         ensures { (s : Said) → Shows bytes.now at self.now s → result ≡ judged at (checks (behind bytes.now at) s end) (Ok (counts_of (content_of s))) }
     {
         if self.slots == 0 {
-            return Err(catalogue_fault(13, at));
+            return Err(Check::SomeSlot.at(at));
         }
         if at + 1 < bytes.len() {
-            return Err(catalogue_fault(14, at + 1));
+            return Err(Check::NothingBehind.at(at + 1));
         }
         Ok(Counts {
             slots: self.slots,
@@ -141,38 +146,8 @@ fn loads_with(loads: u8, make: Make) -> Option<u8>
     ensures { result ≡ loads_with loads make }
 {
     match make {
-        Make::Fit => Some(loads),
-        Make::Bar => Some(loads),
-        Make::Load => {
-            if loads >= LOADS {
-                None
-            } else {
-                Some(loads + 1)
-            }
-        }
-    }
-}
-
-// Whether rows may follow, by the make of the newest sheet.
-fn takes_rows(make: Option<Make>) -> bool
-    ensures { result ≡ rows_under make }
-{
-    match make {
-        None => false,
-        Some(Make::Fit) => true,
-        Some(Make::Bar) => true,
-        Some(Make::Load) => false,
-    }
-}
-
-// Whether weights may follow, by the make of the newest sheet.
-fn takes_weights(make: Option<Make>) -> bool
-    ensures { result ≡ weights_under make }
-{
-    match make {
-        None => false,
-        Some(Make::Fit) => false,
-        Some(Make::Bar) => false,
-        Some(Make::Load) => true,
+        Make::Fit | Make::Bar => Some(loads),
+        Make::Load if loads < LOADS => Some(loads + 1),
+        Make::Load => None,
     }
 }

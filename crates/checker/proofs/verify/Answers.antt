@@ -1,8 +1,8 @@
-use Rattle.std.proofs.Common.{◌≡◌, ◌+◌, length, Ok, Err, sym, ap, ◌∙◌, subst, arith, lit<}
+use Rattle.std.proofs.Common.{◌≡◌, Ok, Err, sym, ap, ◌∙◌, subst, arith, lit<}
 use Rattle.std.proofs.lemmas.Result.{err_from_is_err_and}
-use Rattle.catalogue.specs.Records.{slot, header, row, weight, end, read_at, header_size}
+use Rattle.catalogue.specs.Records.{slot, header, row, weight, end, read_at}
 use Rattle.checker.specs.Model.{entered_as, entry_of, Lies, Part, head_len}
-use Rattle.checker.proofs.Judging.{Reached, reached_none, cut_off_there, ends_there, refused_there, goes_there}
+use Rattle.checker.proofs.Judging.{reached_none, cut_off_there, ends_there, refused_there, goes_by}
 use Rattle.checker.proofs.Stepping.{head_ends, head_some}
 use Rattle.checker.proofs.verify.Goals as goal
 use Rattle.checker.proofs.verify.Goals.{In-Slot, In-Header, In-Row, In-Weight}
@@ -38,7 +38,8 @@ records-preserved-in-Slot c =
     let bs = c.args.bytes.now in
     let i = c.records.invariant in
     let lies : Part bs c.records.at 1 c.in-Slot.body.now = subst (λ x. Lies bs c.records.at (entry_of x)) c.in-Slot.is c.in_ok-body.ensures.lies in
-    (omega (arith, lies.within), goes_there bs c.records.at c.records.progress i.0 i.1 _ c.add_slot.new.self (is_slot (goal.at.records-preserved-in-Slot c).In-Slot) tt (lit< tt) (c.in_ok-add_slot-in-Slot.ensures bs))
+    let size = c.len-at.ensures in
+    (omega (arith, lies.within), goes_by bs c.records.at c.records.progress i.0 i.1 _ c.add_slot.new.self (is_slot (goal.at.records-preserved-in-Slot c).In-Slot) tt (lit< tt) (c.in_ok-add_slot-in-Slot.ensures bs) _ size)
 
 -- a header
 is_header : (c : In-Header) → Ok (header c.in-Header.make c.in-Header.body.now) ≡ read_at c.args.bytes.now c.records.at
@@ -58,8 +59,7 @@ records-preserved-in-Header c =
     let lies : Part bs c.records.at (head_len c.in-Header.make) c.in-Header.body.now = subst (λ x. Lies bs c.records.at (entry_of x)) c.in-Header.is c.in_ok-body.ensures.lies in
     let m = c.in-Header.make in
     let ends = head_ends c.records.at m c.in-Header.body.now lies.long in
-    let to : c.records.at + (1 + length c.in-Header.body.now) ≡ c.records.at + header_size m = omega (arith, ends) in
-    (omega (arith, lies.within, lies.long), subst (λ n. Reached bs n c.add_header.new.self) (sym to) (goes_there bs c.records.at c.records.progress i.0 i.1 _ c.add_header.new.self (is_header (goal.at.records-preserved-in-Header c).In-Header) tt (head_some m) (c.in_ok-add_header-in-Header.ensures bs)))
+    (omega (arith, lies.within, lies.long), goes_by bs c.records.at c.records.progress i.0 i.1 _ c.add_header.new.self (is_header (goal.at.records-preserved-in-Header c).In-Header) tt (head_some m) (c.in_ok-add_header-in-Header.ensures bs) _ (omega (arith, ends)))
 
 -- a row
 is_row : (c : In-Row) → Ok (row c.in-Row.body.now) ≡ read_at c.args.bytes.now c.records.at
@@ -77,7 +77,8 @@ records-preserved-in-Row c =
     let bs = c.args.bytes.now in
     let i = c.records.invariant in
     let lies : Part bs c.records.at 8 c.in-Row.body.now = subst (λ x. Lies bs c.records.at (entry_of x)) c.in-Row.is c.in_ok-body.ensures.lies in
-    (omega (arith, lies.within), goes_there bs c.records.at c.records.progress i.0 i.1 _ c.add_row.new.self (is_row (goal.at.records-preserved-in-Row c).In-Row) tt (lit< tt) c.in_ok-add_row-in-Row.ensures)
+    let size = c.len-at-in-Row.ensures in
+    (omega (arith, lies.within), goes_by bs c.records.at c.records.progress i.0 i.1 _ c.add_row.new.self (is_row (goal.at.records-preserved-in-Row c).In-Row) tt (lit< tt) c.in_ok-add_row-in-Row.ensures _ size)
 
 -- a weight
 is_weight : (c : In-Weight) → Ok (weight c.in-Weight.body.now) ≡ read_at c.args.bytes.now c.records.at
@@ -95,4 +96,5 @@ records-preserved c =
     let bs = c.args.bytes.now in
     let i = c.records.invariant in
     let lies : Part bs c.records.at 4 c.in-Weight.body.now = subst (λ x. Lies bs c.records.at (entry_of x)) c.in-Weight.is c.in_ok-body.ensures.lies in
-    (omega (arith, lies.within), goes_there bs c.records.at c.records.progress i.0 i.1 _ c.records.progress (is_weight (goal.at.records-preserved c).In-Weight) tt (lit< tt) c.in_ok-add_weight-in-Weight.ensures)
+    let size = c.len-at-in-Weight.ensures in
+    (omega (arith, lies.within), goes_by bs c.records.at c.records.progress i.0 i.1 _ c.records.progress (is_weight (goal.at.records-preserved c).In-Weight) tt (lit< tt) c.in_ok-add_weight-in-Weight.ensures _ size)

@@ -1,33 +1,19 @@
-use Rattle.std.proofs.Common.{◌≡◌, ◌+◌, ◌-◌, length, take, drop, ap, arith}
-use Rattle.std.proofs.lemmas.Slice.Eq.{slice_eq-Decides}
-use Rattle.catalogue.specs.Checks.{same}
-use Rattle.checker.proofs.Tests.{same_is, rests_all, rests_found, rests_more, rests_none}
+use Rattle.std.proofs.Common.{◌≡◌, ◌-◌, ◌*◌, length, take, drop, ap, ◌∙◌, arith, rules}
+use borrow.Author.Tests.{tests}
+use Rattle.std.specs.List.{list_any}
+use Rattle.std.proofs.lemmas.Iterator.Search.{any_from_yields_List}
+use Rattle.checker.proofs.Tests.{keyed, records, chunks_yield, stood_from}
 use Rattle.checker.proofs.sheet.stood_before.Goals as goal
-use Rattle.checker.proofs.sheet.stood_before.Goals.{After-eq}
-use Rattle.std.proofs.lemmas.Bool.Decides.{Decides-eqb}
 
-compared : (c : After-eq) → c.eq.result ≡ same c.args.key.now (take (length c.args.key.now) (drop (c.earlier.at + 1) c.args.bytes.now))
-compared c =
-    let from = c.earlier.at + 1 in
-    let len = length c.args.key.now in
-    let long : from + len - from ≡ len = omega arith in
-    same_is c.args.key.now (take (from + len - from) (drop from c.args.bytes.now)) _ c.eq.result (ap (λ n. take n (drop from c.args.bytes.now)) long) (slice_eq-Decides Decides-eqb _ _ _ c.eq.ensures)
-
-pub earlier-init : goal.earlier-init
-earlier-init c = rests_all c.args.bytes.now c.args.key.now c.args.step c.args.from c.args.to
-
-pub returns-then-eq : goal.returns-then-eq
-returns-then-eq c =
-    rests_found c.args.bytes.now c.args.key.now c.args.step c.args.from c.earlier.at c.args.to c.earlier.invariant (omega arith) (omega arith) c.eq.result (compared (goal.at.returns-then-eq c).After-eq) c.if-eq.true
-
-pub earlier-preserved : goal.earlier-preserved
-earlier-preserved c =
-    rests_more c.args.bytes.now c.args.key.now c.args.step c.args.from c.earlier.at c.args.to c.earlier.invariant (omega arith) (omega arith) c.eq.result (compared (goal.at.earlier-preserved c).After-eq) c.if-eq.false
-
-pub returns-else-to-at : goal.returns-else-to-at
-returns-else-to-at c =
-    rests_none c.args.bytes.now c.args.key.now c.args.step c.args.from c.earlier.at c.args.to c.earlier.invariant (omega arith)
-
-pub returns-after-earlier : goal.returns-after-earlier
-returns-after-earlier c =
-    rests_none c.args.bytes.now c.args.key.now c.args.step c.args.from c.earlier.at c.args.to c.earlier.invariant (omega arith)
+pub returns : goal.returns
+returns c =
+    λ n e.
+    let bs = c.args.bytes.now in
+    let from = c.args.from in
+    let size = c.args.size in
+    let key = c.args.key.now in
+    let p = c.in-Some.ensures.lookup in
+    let count : c.args.to - from ≡ size * n = omega arith in
+    let part : c.in-Some.earlier.now ≡ take (size * n) (drop from bs) = p.0.2 ∙ ap (λ k. take k (drop from bs)) count in
+    let long : length c.in-Some.earlier.now ≡ size * n = omega (arith, p.0.3) in
+    any_from_yields_List (keyed key) _ _ _ c.any.ensures.ran (chunks_yield size n c.chunks_exact.result c.in-Some.earlier.now (omega arith) c.chunks_exact.ensures.size c.chunks_exact.ensures.rest long) (λ x b q k. search (rules, tests)) ∙ ap (λ xs. list_any (keyed key) (records size n xs)) part ∙ stood_from bs key size n from c.requires.short

@@ -1,9 +1,9 @@
-use Rattle.std.proofs.Common.{◌≡◌, ◌-◌, length, drop}
+use Rattle.std.proofs.Common.{◌≡◌, length}
 use Rattle.catalogue.specs.Checks.{well_scoped}
 use Rattle.checker.proofs.sheet.well_scoped.Given as goal
 
 abbrev pub invariant-slots : goal.invariant-slots
-invariant-slots l = well_scoped l.slots (drop l.i l.scope) ≡ well_scoped l.slots l.scope
+invariant-slots l = well_scoped l.slots l.left ≡ well_scoped l.slots l.scope
 
 abbrev pub decreases-slots : goal.decreases-slots
-decreases-slots l = length l.scope - l.i
+decreases-slots l = length l.left

@@ -1,4 +1,4 @@
-use Rattle.std.proofs.Common.{◌≡◌, true, false, ◌&&◌, leb, length, sym, ap, ◌∙◌, arith}
+use Rattle.std.proofs.Common.{◌≡◌, ◌+◌, true, false, ◌&&◌, leb, length, sym, ap, ◌∙◌, arith}
 use Rattle.std.proofs.lemmas.Bool.Decides.{nat_tests}
 use Rattle.std.proofs.lemmas.List.{length-take-le}
 use Rattle.catalogue.specs.Checks.{fresh, sheets_of, is_load, well_scoped, scope_of}
@@ -22,5 +22,5 @@ returns c = λ bs s h.
     let full : (is_load m && leb 8 (loads_in (sheets_of s))) ≡ false = ap (λ n. is_load m && leb 8 n) (sym h.loads) ∙ loads.1 in
     record {
       is = grind (arith, nat_tests);
-      shows = λ _. record { options = h.options; sheets = omega (arith, h.sheets, more.sheets); loads = omega (arith, loads.0, h.loads, more.loads); rows = h.rows ∙ omega (arith, more.rows); newest = head_newest bs _ _ m b read.2 ends };
+      shows = λ _. record { options = h.options; sheets = omega (arith, h.sheets, more.sheets); loads = omega (arith, loads.0, h.loads, more.loads); rows = h.rows ∙ omega (arith, more.rows); newest = head_newest bs _ (record { make = m; scope = c.in_ok-scope.scope; first = at + 1 + length b }) b read.2 ends };
     }
