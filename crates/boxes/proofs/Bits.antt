@@ -117,10 +117,11 @@ module _ (b : List ℕ) (s n : ℕ) (lt : s < length b) where
       (λ ne. open_same b (set b s n) t u (rest t ne) h)
       (cases_eq t s)
 
-pub opened : (b : List ℕ) (s o mask : ℕ) → s < length b → Single mask o → Opened b (set b s (bit_or (get_or b s 0) mask)) s o
+pub opened : (b : List ℕ) (s o mask : ℕ) → length b ≡ 48 → s < 48 → Single mask o → Opened b (set b s (bit_or (get_or b s 0) mask)) s o
 unfolding Open Bit
-opened b s o mask lt one =
+opened b s o mask long low one =
     let n = bit_or (get_or b s 0) mask in
+    let lt : s < length b = omega arith in
     record {
       here = λ _ k. write b s n lt o k (omega (arith, bit_at_or (get_or b s 0) mask o, one.here k, bit_at-lt (get_or b s 0) o));
       less = λ t u ne h.
@@ -139,10 +140,11 @@ opened b s o mask lt one =
 pub opened_past : (b : List ℕ) (s o : ℕ) → 48 ≤ s → Opened b b s o
 opened_past b s o past = record { here = λ l _. absurd (omega arith); less = λ t u ne h. h; more = λ t u h. h; rest = λ t ne. refl }
 
-pub restricted : (b : List ℕ) (s mask : ℕ) → s < length b → Restricted b (set b s (bit_and (get_or b s 0) mask)) s mask
+pub restricted : (b : List ℕ) (s mask : ℕ) → length b ≡ 48 → s < 48 → Restricted b (set b s (bit_and (get_or b s 0) mask)) s mask
 unfolding Open Bit
-restricted b s mask lt =
+restricted b s mask long low =
     let n = bit_and (get_or b s 0) mask in
+    let lt : s < length b = omega arith in
     record {
       less = λ t u h.
           after b s n lt (Open b) (λ w k e. (k, omega (arith, bit_at_and (get_or b s 0) mask w, e, bit_at-lt (get_or b s 0) w))) (λ v w _ k. k) t u h;
@@ -151,16 +153,16 @@ restricted b s mask lt =
       rest = rest b s n lt;
     }
 
-pub restricted_past : (b : List ℕ) (s mask : ℕ) → length b ≤ s → Restricted b b s mask
-restricted_past b s mask past =
-    record { less = λ t o h. h; masked = λ o h. absurd (shut_past b s o past h); more = λ o h k. h; rest = λ t ne. refl }
+pub restricted_past : (b : List ℕ) (s mask : ℕ) → length b ≡ 48 → 48 ≤ s → Restricted b b s mask
+restricted_past b s mask long past =
+    record { less = λ t o h. h; masked = λ o h. absurd (shut_past b s o (omega arith) h); more = λ o h k. h; rest = λ t ne. refl }
 
 -- ---- all but one option closed, and one option closed
 
 pub fixed : (b c : List ℕ) (s o mask : ℕ) → Single mask o → Restricted b c s mask → Fixed b c s o
 fixed b c s o mask one r = record { less = r.less; alone = λ u h. (one.only u (r.masked u h)).0; here = λ h. r.more o h (one.here (open_low b s o h)); rest = r.rest }
 
-pub closed : (b c : List ℕ) (s o mask : ℕ) → mask < 2 ^ 32 → Single mask o → Restricted b c s (bit_not w32 mask) → Closed b c s o
+pub closed : (b c : List ℕ) (s o mask : ℕ) → mask < 4294967296 → Single mask o → Restricted b c s (bit_not w32 mask) → Closed b c s o
 unfolding Bit
 closed b c s o mask fits one r =
     let flip : (u : ℕ) → u < 32 → bit (bit_not w32 mask) u ≡ 1 - bit mask u = λ u k. bit_at_not w32 mask u fits k in

@@ -14,7 +14,7 @@ use Rattle.std.proofs.lemmas.Nat.{mod-pow-add, mod_below, pow_pos, one_shl, xor_
 use Rattle.std.proofs.lemmas.Nat.Bits.{bit_at-trailing_zeros, bit_at_xor, bit_at-zero, bit_at-lt, same_from_bits}
 use Rattle.std.proofs.lemmas.List.{same_lists, take_all, get_or_default}
 use Rattle.std.proofs.lemmas.List.Sums.{sum_by_more}
-use Rattle.std.proofs.lemmas.Bool.{cases_eq, cases_lt, eqb-true, eq-eqb, ne_eqb, leb-true, le-leb}
+use Rattle.std.proofs.lemmas.Bool.{cases_eq, cases_lt, eqb-true, eq-eqb, eqb-false, ne_eqb, leb-true, le-leb, not-true, not_from_false}
 use Rattle.subject.specs.Boxes.{Box, Inside, sum, opened_at, opened}
 use Rattle.subject.proofs.Bits as Number
 use Rattle.boxes.specs.Boxes.{Open, opens, Bit, Below, Filled, Some, Least, Lowest, Loose, Two, Within, Differ, SameBox}
@@ -161,22 +161,26 @@ loose_is b (Given i) long h = record {
   fixed = λ t lt w. h.2 t 0 (omega arith) lt (two_alone b t w);
 }
 
-pub some_cell : (b : List ℕ) (s : ℕ) → get_or b s 0 < 2 ^ 32 → (get_or b s 0 ≡ 0 → ⊥) → Some b s
+some_cell : (b : List ℕ) (s cell : ℕ) → cell ≡ get_or b s 0 → cell < 4294967296 → (cell ≡ 0 → ⊥) → Some b s
 unfolding Open
-some_cell b s h ne =
-    let w = Number.some_bit (get_or b s 0) (get_or b s 0) (omega arith) ne in
-    record { option = w.0; is = (Number.small_bit 32 (get_or b s 0) w.0 h w.1, w.1) }
+some_cell b s cell e h ne =
+    let w = Number.some_bit cell cell (omega arith) ne in
+    record { option = w.0; is = (Number.small_bit 32 cell w.0 h w.1, subst (λ n. bit_at n w.0 ≡ 1) e w.1) }
 
-pub no_cell : (b : List ℕ) (s o : ℕ) → get_or b s 0 ≡ 0 → Open b s o → ⊥
+no_cell : (b : List ℕ) (s cell : ℕ) → cell ≡ get_or b s 0 → cell ≡ 0 → Some b s → ⊥
 unfolding Open
-no_cell b s o e h = let k = Number.set_le (get_or b s 0) o h.1 in omega (arith, k, pow_pos o)
+no_cell b s cell e z w = let k = Number.set_le (get_or b s 0) w.option w.is.1 in omega (arith, k, pow_pos w.option)
 
-pub lowest_is : (b : List ℕ) (s cell : ℕ) → cell ≡ get_or b s 0 → cell < 2 ^ 32 → Lowest b s (then_some (not (nat_eq cell 0)) (trailing_zeros w32 cell))
+pub some_decided : (b : List ℕ) (s cell : ℕ) → cell ≡ get_or b s 0 → cell < 4294967296 → Decides (not (nat_eq cell 0)) (Some b s)
+some_decided b s cell e h =
+    (λ t. some_cell b s cell e h (eqb-false cell 0 (not-true _ t)), λ w. not_from_false _ (ne_eqb cell 0 (λ z. no_cell b s cell e z w)))
+
+pub lowest_is : (b : List ℕ) (s cell : ℕ) (r : Option ℕ) → cell ≡ get_or b s 0 → cell < 4294967296 → r ≡ then_some (not (nat_eq cell 0)) (trailing_zeros w32 cell) → Lowest b s r
 unfolding Open
-lowest_is b s cell e h =
+lowest_is b s cell r e h is =
     let k = trailing_zeros w32 cell in
     ⊎_elim
-    (λ z. subst (λ t. Lowest b s (then_some (not t) k)) (sym (eq-eqb cell 0 z)) (λ w. no_cell b s w.option (sym e ∙ z) w.is))
+    (λ z. subst (Lowest b s) (sym (is ∙ ap (λ t. then_some (not t) k) (eq-eqb cell 0 z))) (no_cell b s cell e z))
     (λ ne.
     let t = bit_at-trailing_zeros w32 cell (omega arith) h in
     let least : Least b s k = record {
@@ -186,7 +190,7 @@ lowest_is b s cell e h =
           (λ le. le)
           (cases_lt u k);
     } in
-    subst (λ t. Lowest b s (then_some (not t) k)) (sym (ne_eqb cell 0 ne)) least)
+    subst (Lowest b s) (sym (is ∙ ap (λ t. then_some (not t) k) (ne_eqb cell 0 ne))) least)
     (cases_eq cell 0)
 
 -- ---- masks

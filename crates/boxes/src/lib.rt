@@ -23,6 +23,7 @@ pub struct OptionBox {
 }
 
 // The mask of one option, which has no bit where a box has no such option.
+#[tactic(auto, using(crate::proofs::Bits::single_bit, crate::proofs::Bits::single_none))]
 fn bit(option: u8) -> u32
     ensures { Single result option }
 {
@@ -30,6 +31,7 @@ fn bit(option: u8) -> u32
 }
 
 // The mask of the options below a number.
+#[tactic(auto, using(crate::proofs::Counting::below_some, crate::proofs::Counting::below_all))]
 fn below(size: u8) -> u32
     ensures { Below result size }
 {
@@ -41,6 +43,7 @@ fn below(size: u8) -> u32
 }
 
 // How many options a cell opens.
+#[tactic(auto, using(crate::proofs::Counting::ones_alone))]
 fn ones(cell: &u32) -> u32
     ensures opened { result ≡ opened_at (opens (cell.now ∷ [])) 0 }
     ensures bound { result ≤ 32 }
@@ -49,6 +52,7 @@ fn ones(cell: &u32) -> u32
 }
 
 // Whether a cell opens two or more options.
+#[tactic(auto, using(crate::proofs::Counting::two_decided))]
 fn several(cell: &u32) -> bool
     ensures { Decides result (Two (cell.now ∷ []) 0) }
 {
@@ -94,6 +98,7 @@ impl OptionBox {
     }
 
     // Whether an option is open; none is where there is no such slot or option.
+    #[tactic(auto, using(crate::proofs::Bits::tested))]
     pub fn is_open(&self, slot: usize, option: u8) -> bool
         ensures { Decides result (Open self.now.cells slot option) }
     {
@@ -126,6 +131,7 @@ impl OptionBox {
     }
 
     // Closes every option of a slot but one, and leaves the other slots.
+    #[tactic(auto, using(crate::proofs::Bits::fixed))]
     pub fn fix(&mut self, slot: usize, option: u8)
         ensures { Fixed self.old.cells self.new.cells slot option }
     {
@@ -155,6 +161,7 @@ impl OptionBox {
     }
 
     // The lowest open option of a slot.
+    #[tactic(auto, using(crate::proofs::Counting::lowest_is))]
     pub fn lowest(&self, slot: usize) -> Option<u8>
         ensures { Lowest self.now.cells slot result }
     {
