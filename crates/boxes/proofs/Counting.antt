@@ -20,7 +20,7 @@ use Rattle.subject.proofs.Bits as Number
 use Rattle.boxes.specs.Boxes.{Open, opens, Bit, Below, Filled, Some, Least, Lowest, Loose, Two, Within, Differ, SameBox}
 use Rattle.boxes.proofs.Bits.{open_low, open_there}
 
-both : (x y : Bool) → T (x && y) ↔ (T x × T y)
+pub both : (x y : Bool) → T (x && y) ↔ (T x × T y)
 both true true = (λ t. (tt, tt), λ t. tt)
 both true false = (λ t. absurd t, λ t. t.1)
 both false true = (λ t. absurd t, λ t. t.0)
@@ -37,7 +37,7 @@ opens_is b s o =
 
 -- ---- sums of tests
 
-sum_same : (f g : ℕ → ℕ) (n : ℕ) → ((i : ℕ) → i < n → f i ≡ g i) → sum f n ≡ sum g n
+pub sum_same : (f g : ℕ → ℕ) (n : ℕ) → ((i : ℕ) → i < n → f i ≡ g i) → sum f n ≡ sum g n
 sum_same f g zero e = refl
 sum_same f g (suc n) e = let a = sum_same f g n (λ i lt. e i (omega arith)) in let b = e n (omega arith) in omega (arith, a, b)
 

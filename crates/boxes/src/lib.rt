@@ -59,7 +59,8 @@ fn several(cell: &u32) -> bool
     cell.count_ones() >= 2
 }
 
-// Whether the cells of two boxes are the same.
+// Whether the cells of two boxes are the same. These are slices, since a proof knows the range of what a slice holds, and
+// not of what an array does.
 fn same(cells: &[u32], others: &[u32]) -> bool
     requires first { length cells.now ≡ 48 }
     requires second { length others.now ≡ 48 }
@@ -97,7 +98,8 @@ impl OptionBox {
         self.cells.get(slot).copied().unwrap_or(0)
     }
 
-    // Whether an option is open; none is where there is no such slot or option.
+    // Whether an option is open; none is where there is no such slot or option. A slot and an option are passed side by
+    // side here and below: callers read them from two tables, so a pair would be made only to be taken apart.
     #[tactic(auto, using(crate::proofs::Bits::tested))]
     pub fn is_open(&self, slot: usize, option: u8) -> bool
         ensures { Decides result (Open self.now.cells slot option) }
@@ -109,6 +111,7 @@ impl OptionBox {
     pub fn open(&mut self, slot: usize, option: u8)
         ensures { Opened self.old.cells self.new.cells slot option }
     {
+        // By index: after a write through `get_mut` a proof knows none of the cells.
         if slot < SLOTS {
             self.cells[slot] |= bit(option);
         }
@@ -125,6 +128,7 @@ impl OptionBox {
     pub fn restrict(&mut self, slot: usize, mask: u32)
         ensures { Restricted self.old.cells self.new.cells slot mask }
     {
+        // By index: after a write through `get_mut` a proof knows none of the cells.
         if slot < SLOTS {
             self.cells[slot] &= mask;
         }
@@ -145,8 +149,8 @@ impl OptionBox {
         self.cell(slot) != 0
     }
 
-    // Whether the same options are open in another box. Where they are not, the contract tells of one that is open in
-    // just one of the two.
+    // Whether the same options are open in another box. `==` would say no more than that, and this tells, where they are
+    // not, of an option that is open in just one of the two.
     pub fn same_as(&self, other: &OptionBox) -> bool
         ensures { SameBox self.now.cells other.now.cells result }
     {
