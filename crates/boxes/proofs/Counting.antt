@@ -14,7 +14,8 @@ use Rattle.std.proofs.lemmas.Nat.{mod-pow-add, mod_below, pow_pos, one_shl, xor_
 use Rattle.std.proofs.lemmas.Nat.Bits.{bit_at-trailing_zeros, bit_at_xor, bit_at-zero, bit_at-lt, same_from_bits}
 use Rattle.std.proofs.lemmas.List.{same_lists, take_all, get_or_default}
 use Rattle.std.proofs.lemmas.List.Sums.{sum_by_more}
-use Rattle.std.proofs.lemmas.Bool.{cases_eq, cases_lt, eqb-true, eq-eqb, eqb-false, ne_eqb, leb-true, le-leb, not-true, not_from_false}
+use Rattle.std.proofs.lemmas.Bool.Decides.{nat_tests}
+use Rattle.std.proofs.lemmas.Bool.{cases_eq, cases_lt, eq-eqb, eqb-false, ne_eqb, leb-true, le-leb, not-true, not_from_false}
 use Rattle.subject.specs.Boxes.{Box, Inside, sum, opened_at, opened}
 use Rattle.subject.proofs.Bits as Number
 use Rattle.boxes.specs.Boxes.{Open, opens, Bit, Below, Filled, Some, Least, Lowest, Loose, Two, Within, Differ, SameBox}
@@ -39,7 +40,7 @@ opens_is b s o =
 
 pub sum_same : (f g : ℕ → ℕ) (n : ℕ) → ((i : ℕ) → i < n → f i ≡ g i) → sum f n ≡ sum g n
 sum_same f g zero e = refl
-sum_same f g (suc n) e = let a = sum_same f g n (λ i lt. e i (omega arith)) in let b = e n (omega arith) in omega (arith, a, b)
+sum_same f g (suc n) e = omega (arith, sum_same f g n (λ i lt. e i (omega arith)), e n (omega arith))
 
 one_of : (t : Bool) → T t → ◌≡◌ {A = ℕ} (cond t 1 0) 1
 one_of true h = refl
@@ -231,11 +232,7 @@ differ_bit w x y hx hy ne =
 
 -- equal tests of two bits mean equal bits
 bits_from : (x y : ℕ) → x < 2 → y < 2 → eqb x 1 ≡ eqb y 1 → x ≡ y
-bits_from x y hx hy e =
-    ⊎_elim
-    (λ p. p ∙ sym (eqb-true y 1 (sym e ∙ eq-eqb x 1 p)))
-    (λ np. ⊎_elim (λ q. absurd (np (eqb-true x 1 (e ∙ eq-eqb y 1 q)))) (λ nq. omega arith) (cases_eq y 1))
-    (cases_eq x 1)
+bits_from x y hx hy e = grind (arith, nat_tests)
 
 differ_at : (b c : List ℕ) (s : ℕ) → s < 48 → get_or b s 0 < 2 ^ 32 → get_or c s 0 < 2 ^ 32 → (get_or b s 0 ≡ get_or c s 0 → ⊥) → Differ b c
 differ_at b c s h hb hc ne =
@@ -283,10 +280,9 @@ sum_lt f g (suc n) k h le lt =
     (cases_eq k n)
 
 one_le : (s t : Bool) → (T s → T t) → ◌≤◌ (cond s 1 0) (cond t 1 0)
-one_le true true h = omega arith
 one_le true false h = absurd (h tt)
-one_le false true h = omega arith
-one_le false false h = omega arith
+one_le true true h = omega arith
+one_le false t h = omega arith
 
 one_lt : (s t : Bool) → (T s → ⊥) → T t → ◌<◌ (cond s 1 0) (cond t 1 0)
 one_lt true t h k = absurd (h tt)
@@ -300,14 +296,16 @@ opened_lt X Y s o sub hs ho no' yes' =
     (λ t. sum_le (λ p. cond (X t p) 1 0) (λ p. cond (Y t p) 1 0) 32 (λ p. one_le (X t p) (Y t p) (sub t p)))
     (sum_lt (λ p. cond (X s p) 1 0) (λ p. cond (Y s p) 1 0) 32 o ho (λ p. one_le (X s p) (Y s p) (sub s p)) (one_lt (X s o) (Y s o) no' yes'))
 
+-- two tests that differ, where the first implies the second
+opens_one : (t u : Bool) → (t ≡ u → ⊥) → (T t → T u) → (T t → ⊥) × T u
+opens_one true true ne h = absurd (ne refl)
+opens_one true false ne h = absurd (h tt)
+opens_one false true ne h = (λ t. t, tt)
+opens_one false false ne h = absurd (ne refl)
+
 -- a box within another that differs from it opens fewer options
 pub differ_less : (b c : List ℕ) → Within c b → Differ c b → opened (opens c) < opened (opens b)
 differ_less b c less d =
     let sub : Inside (opens c) (opens b) = λ s o t. (opens_is b s o).1 (less s o ((opens_is c s o).0 t)) in
-    go sub (opens c d.slot d.option) (opens b d.slot d.option) refl refl
-  where
-    go : Inside (opens c) (opens b) → (t u : Bool) → t ≡ opens c d.slot d.option → u ≡ opens b d.slot d.option → opened (opens c) < opened (opens b)
-    go sub true true p q = absurd (d.apart (sym p ∙ q))
-    go sub false false p q = absurd (d.apart (sym p ∙ q))
-    go sub true false p q = absurd (subst T (sym q) (sub d.slot d.option (subst T p tt)))
-    go sub false true p q = opened_lt (opens c) (opens b) d.slot d.option sub d.there.0 d.there.1 (λ t. subst T (sym p) t) (subst T q tt)
+    let one = opens_one (opens c d.slot d.option) (opens b d.slot d.option) d.apart (sub d.slot d.option) in
+    opened_lt (opens c) (opens b) d.slot d.option sub d.there.0 d.there.1 one.0 one.1
