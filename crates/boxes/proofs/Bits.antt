@@ -1,109 +1,23 @@
--- One bit of a cell, tested and flipped. Assumes nothing.
-use Rattle.std.proofs.Common.{◌≡◌, ℕ, ◌+◌, ◌-◌, ◌*◌, ◌/◌, ◌%◌, ◌^◌, ◌<◌, ◌≤◌, eqb, List, length, get_or, set, replicate, Decides, sym, refl, ap, ◌∙◌, subst, ⊎_elim, one-mul, arith, get_or-set_other, get_or-set_same}
-use native.Mathlib.Nat.{div-eq_of_lt, mul-mod_left, zero-div}
-use lib.Bits.{bit_and, bit_xor, xor_zero_r}
-use lib.ListN.{get_or-replicate}
-use Rattle.std.proofs.lemmas.Nat.{and_mask, and_shr, and_mod, and_le_l, and_le_r, xor_shr, xor_mod, shl-shr, pow-add, pow_below, one_shl}
-use Rattle.std.proofs.lemmas.List.{get_or_past}
-use Rattle.std.proofs.lemmas.Bool.{cases_eq, cases_order, cases_lt, eqb-true, eq-eqb}
-use Rattle.boxes.specs.Boxes.{Open, Closed, Opened, Restricted, Bit}
+-- The bits of cells and masks, and what is open after a cell is written. Assumes nothing.
+use Rattle.std.proofs.Common.{◌≡◌, ℕ, ◌-◌, ◌*◌, ◌/◌, ◌%◌, ◌^◌, ◌<◌, ◌≤◌, not, nat_eq, bit_and, bit_or, List, length, get_or, set, replicate, Decides, sym, refl, ap, ◌∙◌, subst, ⊎_elim, arith, get_or-set_other, get_or-set_same}
+use Rattle.std.specs.Int.{bit_not, w32}
+use Rattle.std.proofs.lemmas.Nat.{pow_pos, one_shl}
+use Rattle.std.proofs.lemmas.Nat.Bits.{bit_at-pow_same, bit_at-pow_other, bit_at_and, bit_at_or, bit_at_not, bit_at-zero, bit_at-lt}
+use Rattle.std.proofs.lemmas.List.{get_or_past, get_or-replicate}
+use Rattle.std.proofs.lemmas.Bool.{cases_eq, cases_lt, eqb-false, ne_eqb, not-true, not_from_false}
+use Rattle.subject.proofs.Bits as Number
+use Rattle.boxes.specs.Boxes.{Open, Closed, Opened, Restricted, Fixed, Bit, Single}
 
 -- bit k of a number
 abbrev pub bit : ℕ → ℕ → ℕ
 bit n k = (n / 2 ^ k) % 2
 
-bit_and_lem : (n k : ℕ) → bit_and (n / 2 ^ k) 1 ≡ bit n k
-bit_and_lem n k = and_mask (n / 2 ^ k) 1
-
-bit_xor_lem : (a b k : ℕ) → bit (bit_xor a b) k ≡ bit_xor (bit a k) (bit b k)
-bit_xor_lem a b k = ap (λ n. n % 2) (xor_shr a b k) ∙ xor_mod (a / 2 ^ k) (b / 2 ^ k) 1
-
 -- a power of two has one bit
 pub bit_here : (o : ℕ) → bit (2 ^ o) o ≡ 1
-bit_here o = ap (λ n. n % 2) (ap (λ n. n / 2 ^ o) (sym (one-mul (2 ^ o))) ∙ shl-shr 1 o)
-
-bit_high : (o k : ℕ) → o < k → bit (2 ^ o) k ≡ 0
-bit_high o k h = ap (λ n. n % 2) (div-eq_of_lt (pow_below o k h))
-
-bit_low : (d k : ℕ) → bit (2 ^ ((d + 1) + k)) k ≡ 0
-bit_low d k =
-    ap (λ n. (n / 2 ^ k) % 2) (pow-add 2 (d + 1) k) ∙ ap (λ n. n % 2) (shl-shr (2 ^ (d + 1)) k ∙ pow-add 2 d 1) ∙ mul-mod_left (2 ^ d) 2
+bit_here o = bit_at-pow_same o
 
 pub bit_other : (o k : ℕ) → (k ≡ o → ⊥) → bit (2 ^ o) k ≡ 0
-bit_other o k ne =
-    ⊎_elim
-    (λ e. absurd (ne e))
-    (⊎_elim
-    (λ h. let e : o ≡ ((o - k - 1) + 1) + k = omega arith in subst (λ (n : ℕ). bit (2 ^ n) k ≡ 0) (sym e) (bit_low (o - k - 1) k))
-    (λ h. bit_high o k h))
-    (cases_order k o)
-
--- flipping bit o leaves the others
-flip_here : (x o v : ℕ) → bit x o ≡ v → bit (bit_xor x (2 ^ o)) o ≡ bit_xor v 1
-flip_here x o v h = bit_xor_lem x (2 ^ o) o ∙ ap (λ n. bit_xor n (bit (2 ^ o) o)) h ∙ ap (bit_xor v) (bit_here o)
-
-flip_other : (x o k : ℕ) → (k ≡ o → ⊥) → bit (bit_xor x (2 ^ o)) k ≡ bit x k
-flip_other x o k ne = bit_xor_lem x (2 ^ o) k ∙ ap (bit_xor (bit x k)) (bit_other o k ne) ∙ xor_zero_r (bit x k)
-
--- a bit is 0 or 1
-two : (n : ℕ) → (n % 2 ≡ 1 → ⊥) → n % 2 ≡ 0
-two n ne = omega arith
-
--- the cells with one bit flipped
-abbrev pub flipped : List ℕ → ℕ → ℕ → List ℕ
-flipped b s o = set b s (bit_xor (get_or b s 0) ((1 * 2 ^ o) % 4294967296))
-
-module _ (b : List ℕ) (s o : ℕ) (lt : s < length b) (small : o < 32) where
-  cell : get_or (flipped b s o) s 0 ≡ bit_xor (get_or b s 0) (2 ^ o)
-  cell = get_or-set_same b s (bit_xor (get_or b s 0) ((1 * 2 ^ o) % 4294967296)) 0 lt ∙ ap (bit_xor (get_or b s 0)) (one_shl o 32 small)
-
-  pub cell_other : (t : ℕ) → (t ≡ s → ⊥) → get_or (flipped b s o) t 0 ≡ get_or b t 0
-  cell_other t ne = get_or-set_other b s t (bit_xor (get_or b s 0) ((1 * 2 ^ o) % 4294967296)) 0 ne
-
-  -- another bit is as it was
-  same_bit : (t u : ℕ) → ((t ≡ s) × (u ≡ o) → ⊥) → bit (get_or (flipped b s o) t 0) u ≡ bit (get_or b t 0) u
-  same_bit t u ne =
-      ⊎_elim
-      (λ e. ap (λ v. bit (get_or (flipped b s o) v 0) u) e ∙ ap (λ n. bit n u) cell ∙ flip_other (get_or b s 0) o u (λ f. ne (e, f)) ∙ ap (λ v. bit (get_or b v 0) u) (sym e))
-      (λ apart. ap (λ n. bit n u) (cell_other t apart))
-      (cases_eq t s)
-
-  -- one option or another
-  apart : {X : Type 0} (t u : ℕ) → ((t ≡ s) → (u ≡ o) → X) → (((t ≡ s) × (u ≡ o) → ⊥) → X) → X
-  apart t u f g = ⊎_elim (λ e. ⊎_elim (λ h. f e h) (λ ne. g (λ p. ne p.1)) (cases_eq u o)) (λ ne. g (λ p. ne p.0)) (cases_eq t s)
-
-  pub closed : Open b s o → Closed b (flipped b s o) s o
-  unfolding Open
-  closed h =
-      let off : bit (get_or (flipped b s o) s 0) o ≡ 0 = ap (λ n. bit n o) cell ∙ flip_here (get_or b s 0) o 1 h.1 in
-      record {
-        here = λ k. let z : ◌≡◌ {A = ℕ} 0 1 = sym off ∙ k.1 in omega arith;
-        less = λ t u k. apart t u
-            (λ e f. subst (λ v. Open b v u) (sym e) (subst (λ w. Open b s w) (sym f) h))
-            (λ ne. (k.0, sym (same_bit t u ne) ∙ k.1));
-        more = λ t u ne k. (k.0, same_bit t u ne ∙ k.1);
-        rest = cell_other;
-      }
-
-  pub opened : (Open b s o → ⊥) → Opened b (flipped b s o) s o
-  unfolding Open
-  opened shut =
-      let zero' : bit (get_or b s 0) o ≡ 0 = two (get_or b s 0 / 2 ^ o) (λ k. shut (small, k)) in
-      let on : bit (get_or (flipped b s o) s 0) o ≡ 1 = ap (λ n. bit n o) cell ∙ flip_here (get_or b s 0) o 0 zero' in
-      record {
-        here = λ l k. (k, on);
-        less = λ t u ne k. (k.0, sym (same_bit t u ne) ∙ k.1);
-        more = λ t u k. apart t u
-            (λ e f. absurd (shut (subst (λ v. Open b v o) e (subst (λ w. Open b t w) f k))))
-            (λ ne. (k.0, same_bit t u ne ∙ k.1));
-        rest = cell_other;
-      }
-
--- the test of a bit
-pub tested : (b : List ℕ) (s o : ℕ) → o < 32 → Decides (eqb (bit_and (get_or b s 0 / 2 ^ o) 1) 1) (Open b s o)
-unfolding Open
-tested b s o small =
-    (λ t. (small, sym (bit_and_lem (get_or b s 0) o) ∙ eqb-true (bit_and (get_or b s 0 / 2 ^ o) 1) 1 t), λ h. eq-eqb (bit_and (get_or b s 0 / 2 ^ o) 1) 1 (bit_and_lem (get_or b s 0) o ∙ h.1))
+bit_other o k ne = bit_at-pow_other o k ne
 
 -- what is open is an option of a slot
 pub open_low : (b : List ℕ) (s o : ℕ) → Open b s o → o < 32
@@ -116,70 +30,154 @@ open_there b s o h =
     ⊎_elim
     (λ lt. lt)
     (λ past.
-    let z : bit (get_or b s 0) o ≡ 0 = ap (λ n. bit n o) (get_or_past b s 0 past) ∙ ap (λ n. n % 2) (zero-div (2 ^ o)) in
+    let z : bit (get_or b s 0) o ≡ 0 = ap (λ n. bit n o) (get_or_past b s 0 past) ∙ bit_at-zero o in
     absurd (let y : ◌≡◌ {A = ℕ} 0 1 = sym z ∙ h.1 in omega arith))
     (cases_lt s (length b))
 
--- nothing is open past the last slot and option
+-- nothing is open past the last slot
 pub shut_past : (b : List ℕ) (s o : ℕ) → length b ≤ s → Open b s o → ⊥
 shut_past b s o past h = let lt = open_there b s o h in omega arith
-
-pub shut_high : (b : List ℕ) (s o : ℕ) → 32 ≤ o → Open b s o → ⊥
-shut_high b s o past h = let lt = open_low b s o h in omega arith
-
--- where nothing changes
-pub closed_same : (b : List ℕ) (s o : ℕ) → (Open b s o → ⊥) → Closed b b s o
-closed_same b s o shut = record { here = shut; less = λ t u h. h; more = λ t u ne h. h; rest = λ t ne. refl }
-
-pub opened_same : (b : List ℕ) (s o : ℕ) → (s < 48 → o < 32 → Open b s o) → Opened b b s o
-opened_same b s o is = record { here = is; less = λ t u ne h. h; more = λ t u h. h; rest = λ t ne. refl }
-
-pub none_open : (s o : ℕ) → Open (replicate 48 0) s o → ⊥
-unfolding Open
-none_open s o h =
-    ⊎_elim
-    (λ lt.
-    let z : bit (get_or (replicate 48 0) s 0) o ≡ 0 = ap (λ n. bit n o) (get_or-replicate 48 s 0 0 lt) ∙ ap (λ n. n % 2) (zero-div (2 ^ o)) in
-    let y : ◌≡◌ {A = ℕ} 0 1 = sym z ∙ h.1 in omega arith)
-    (λ past. shut_past (replicate 48 0) s o past h)
-    (cases_lt s 48)
-
--- the bits that two numbers share
-bit_both : (a b k : ℕ) → bit (bit_and a b) k ≡ bit_and (bit a k) (bit b k)
-bit_both a b k = ap (λ n. n % 2) (and_shr a b k) ∙ and_mod (a / 2 ^ k) (b / 2 ^ k) 1
-
-both_one : (x y : ℕ) → x < 2 → y < 2 → bit_and x y ≡ 1 → (x ≡ 1) × (y ≡ 1)
-both_one x y l k e = (omega (arith, and_le_l x y), omega (arith, and_le_r x y))
-
-bit_two : (n k : ℕ) → bit n k < 2
-bit_two n k = omega arith
 
 -- other slots are as they were where their cells are
 pub open_same : (b c : List ℕ) (s o : ℕ) → get_or c s 0 ≡ get_or b s 0 → Open b s o → Open c s o
 unfolding Open
 open_same b c s o e h = (h.0, ap (λ n. bit n o) e ∙ h.1)
 
--- the cells with one masked
-abbrev pub masked : List ℕ → ℕ → ℕ → List ℕ
-masked b s mask = set b s (bit_and (get_or b s 0) mask)
+pub none_open : (s o : ℕ) → Open (replicate 48 0) s o → ⊥
+unfolding Open
+none_open s o h =
+    ⊎_elim
+    (λ lt.
+    let z : bit (get_or (replicate 48 0) s 0) o ≡ 0 = ap (λ n. bit n o) (get_or-replicate 48 s 0 0 lt) ∙ bit_at-zero o in
+    let y : ◌≡◌ {A = ℕ} 0 1 = sym z ∙ h.1 in omega arith)
+    (λ past. shut_past (replicate 48 0) s o past h)
+    (cases_lt s 48)
 
-pub restricted : (b : List ℕ) (s mask : ℕ) → s < length b → Restricted b (masked b s mask) s mask
+-- ---- masks of one option
+
+pub single_bit : (o : ℕ) → o < 32 → Single ((1 * 2 ^ o) % 4294967296) o
+unfolding Bit
+single_bit o h =
+    subst (λ m. Single m o) (sym (one_shl o 32 h)) (record {
+      only = λ u b. let e = (Number.one_bit o u).0 b in (e, omega (arith, e));
+      here = λ _. (Number.one_bit o o).1 refl;
+    })
+
+pub single_none : (o : ℕ) → 32 ≤ o → Single 0 o
+unfolding Bit
+single_none o h = record { only = λ u b. absurd (let y : ◌≡◌ {A = ℕ} 0 1 = sym (bit_at-zero u) ∙ b in omega arith); here = λ k. absurd (omega arith) }
+
+-- a cell shares a bit with the mask of one option exactly where that option is open
+pub tested : (b : List ℕ) (s o cell mask : ℕ) → cell ≡ get_or b s 0 → Single mask o → Decides (not (nat_eq (bit_and cell mask) 0)) (Open b s o)
 unfolding Open Bit
-restricted b s mask lt =
-    let here : get_or (masked b s mask) s 0 ≡ bit_and (get_or b s 0) mask = get_or-set_same b s (bit_and (get_or b s 0) mask) 0 lt in
-    let other : (t : ℕ) → (t ≡ s → ⊥) → get_or (masked b s mask) t 0 ≡ get_or b t 0 = λ t ne. get_or-set_other b s t (bit_and (get_or b s 0) mask) 0 ne in
-    let bits : (o : ℕ) → bit (get_or (masked b s mask) s 0) o ≡ bit_and (bit (get_or b s 0) o) (bit mask o) = λ o. ap (λ n. bit n o) here ∙ bit_both (get_or b s 0) mask o in
-    let parts : (o : ℕ) → bit (get_or (masked b s mask) s 0) o ≡ 1 → (bit (get_or b s 0) o ≡ 1) × (bit mask o ≡ 1) = λ o h. both_one (bit (get_or b s 0) o) (bit mask o) (bit_two (get_or b s 0) o) (bit_two mask o) (sym (bits o) ∙ h) in
+tested b s o cell mask e one = (
+  λ t.
+      let ne = eqb-false (bit_and cell mask) 0 (not-true _ t) in
+      let w = Number.some_bit (bit_and cell mask) (bit_and cell mask) (omega arith) ne in
+      let both = bit_at_and cell mask w.0 in
+      let m : bit mask w.0 ≡ 1 = omega (arith, w.1, both) in
+      let c : bit cell w.0 ≡ 1 = omega (arith, w.1, both) in
+      let k = one.only w.0 m in
+      (omega (arith, k.0, k.1), subst (λ n. bit n o ≡ 1) e (subst (λ u. bit cell u ≡ 1) k.0 c)),
+  λ h.
+      let c : bit cell o ≡ 1 = subst (λ n. bit n o ≡ 1) (sym e) h.1 in
+      let m : bit mask o ≡ 1 = one.here h.0 in
+      let x : bit (bit_and cell mask) o ≡ 1 = omega (arith, bit_at_and cell mask o, c, m) in
+      not_from_false _ (ne_eqb _ 0 (λ z. let le = Number.set_le (bit_and cell mask) o x in omega (arith, pow_pos o, le, z))),
+)
+
+-- ---- a cell written
+
+module _ (b : List ℕ) (s n : ℕ) (lt : s < length b) where
+  written : (u : ℕ) → Open (set b s n) s u → (u < 32) × (bit n u ≡ 1)
+  unfolding Open
+  written u h = (h.0, subst (λ x. bit x u ≡ 1) (get_or-set_same b s n 0 lt) h.1)
+
+  write : (u : ℕ) → u < 32 → bit n u ≡ 1 → Open (set b s n) s u
+  unfolding Open
+  write u k h = (k, subst (λ x. bit x u ≡ 1) (sym (get_or-set_same b s n 0 lt)) h)
+
+  rest : (t : ℕ) → (t ≡ s → ⊥) → get_or (set b s n) t 0 ≡ get_or b t 0
+  rest t ne = get_or-set_other b s t n 0 ne
+
+  -- what is open after it, slot by slot
+  after : (X : ℕ → ℕ → Type 0) → ((u : ℕ) → u < 32 → bit n u ≡ 1 → X s u) → ((t u : ℕ) → (t ≡ s → ⊥) → Open b t u → X t u) → (t u : ℕ) → Open (set b s n) t u → X t u
+  after X f g t u h =
+      ⊎_elim
+      (λ e. let w = written u (subst (λ v. Open (set b s n) v u) e h) in subst (λ v. X v u) (sym e) (f u w.0 w.1))
+      (λ ne. g t u ne (open_same (set b s n) b t u (sym (rest t ne)) h))
+      (cases_eq t s)
+
+  before : (X : ℕ → ℕ → Type 0) → ((u : ℕ) → X s u → Open b s u → (u < 32) × (bit n u ≡ 1)) → (t u : ℕ) → X t u → Open b t u → Open (set b s n) t u
+  before X f t u x h =
+      ⊎_elim
+      (λ e.
+      let w = f u (subst (λ v. X v u) e x) (subst (λ v. Open b v u) e h) in
+      subst (λ v. Open (set b s n) v u) (sym e) (write u w.0 w.1))
+      (λ ne. open_same b (set b s n) t u (rest t ne) h)
+      (cases_eq t s)
+
+pub opened : (b : List ℕ) (s o mask : ℕ) → length b ≡ 48 → s < 48 → Single mask o → Opened b (set b s (bit_or (get_or b s 0) mask)) s o
+unfolding Open Bit
+opened b s o mask long low one =
+    let n = bit_or (get_or b s 0) mask in
+    let lt : s < length b = omega arith in
     record {
-      less = λ t o h. ⊎_elim
-          (λ e. subst (λ v. Open b v o) (sym e) (h.0, (parts o (subst (λ v. bit (get_or (masked b s mask) v 0) o ≡ 1) e h.1)).0))
-          (λ ne. (h.0, sym (ap (λ n. bit n o) (other t ne)) ∙ h.1))
-          (cases_eq t s);
-      masked = λ o h. (parts o h.1).1;
-      more = λ o h k. (h.0, bits o ∙ ap (λ n. bit_and n (bit mask o)) h.1 ∙ ap (bit_and 1) k);
-      rest = other;
+      here = λ _ k. write b s n lt o k (omega (arith, bit_at_or (get_or b s 0) mask o, one.here k, bit_at-lt (get_or b s 0) o));
+      less = λ t u ne h.
+          after b s n lt (λ v w. ((v ≡ s) × (w ≡ o) → ⊥) → Open b v w)
+          (λ w k e f. ⊎_elim
+          (λ x. (k, x))
+          (λ x. let m : bit mask w ≡ 1 = omega (arith, bit_at_or (get_or b s 0) mask w, e, x, bit_at-lt (get_or b s 0) w, bit_at-lt mask w) in absurd (f (refl, (one.only w m).0)))
+          (cases_eq (bit (get_or b s 0) w) 1))
+          (λ v w _ k _. k)
+          t u h ne;
+      more = λ t u h.
+          before b s n lt (λ _ _. Unit {0}) (λ w _ k. (k.0, omega (arith, bit_at_or (get_or b s 0) mask w, k.1, bit_at-lt mask w))) t u tt h;
+      rest = rest b s n lt;
     }
 
-pub restricted_same : (b : List ℕ) (s mask : ℕ) → length b ≤ s → Restricted b b s mask
-restricted_same b s mask past =
-    record { less = λ t o h. h; masked = λ o h. absurd (shut_past b s o past h); more = λ o h k. h; rest = λ t ne. refl }
+pub opened_past : (b : List ℕ) (s o : ℕ) → 48 ≤ s → Opened b b s o
+opened_past b s o past = record { here = λ l _. absurd (omega arith); less = λ t u ne h. h; more = λ t u h. h; rest = λ t ne. refl }
+
+pub restricted : (b : List ℕ) (s mask : ℕ) → length b ≡ 48 → s < 48 → Restricted b (set b s (bit_and (get_or b s 0) mask)) s mask
+unfolding Open Bit
+restricted b s mask long low =
+    let n = bit_and (get_or b s 0) mask in
+    let lt : s < length b = omega arith in
+    record {
+      less = λ t u h.
+          after b s n lt (Open b) (λ w k e. (k, omega (arith, bit_at_and (get_or b s 0) mask w, e, bit_at-lt (get_or b s 0) w))) (λ v w _ k. k) t u h;
+      masked = λ u h. let w = written b s n lt u h in omega (arith, bit_at_and (get_or b s 0) mask u, w.1, bit_at-lt mask u);
+      more = λ u h k. write b s n lt u h.0 (omega (arith, bit_at_and (get_or b s 0) mask u, h.1, k));
+      rest = rest b s n lt;
+    }
+
+pub restricted_past : (b : List ℕ) (s mask : ℕ) → length b ≡ 48 → 48 ≤ s → Restricted b b s mask
+restricted_past b s mask long past =
+    record { less = λ t o h. h; masked = λ o h. absurd (shut_past b s o (omega arith) h); more = λ o h k. h; rest = λ t ne. refl }
+
+-- ---- all but one option closed, and one option closed
+
+pub fixed : (b c : List ℕ) (s o mask : ℕ) → Single mask o → Restricted b c s mask → Fixed b c s o
+fixed b c s o mask one r = record { less = r.less; alone = λ u h. (one.only u (r.masked u h)).0; here = λ h. r.more o h (one.here (open_low b s o h)); rest = r.rest }
+
+pub closed : (b c : List ℕ) (s o mask : ℕ) → mask < 4294967296 → Single mask o → Restricted b c s (bit_not w32 mask) → Closed b c s o
+unfolding Bit
+closed b c s o mask fits one r =
+    let flip : (u : ℕ) → u < 32 → bit (bit_not w32 mask) u ≡ 1 - bit mask u = λ u k. bit_at_not w32 mask u fits k in
+    record {
+      here = λ h.
+          let k = open_low c s o h in
+          let m : bit (bit_not w32 mask) o ≡ 1 = r.masked o h in
+          omega (arith, flip o k, m, one.here k);
+      less = r.less;
+      more = λ t u ne h. ⊎_elim
+          (λ e.
+          let k = open_low b t u h in
+          let off : bit mask u ≡ 1 → ⊥ = λ m. ne (e, (one.only u m).0) in
+          subst (λ v. Open c v u) (sym e) (r.more u (subst (λ v. Open b v u) e h) (omega (arith, flip u k, off, bit_at-lt mask u))))
+          (λ apart. open_same b c t u (r.rest t apart) h)
+          (cases_eq t s);
+      rest = r.rest;
+    }

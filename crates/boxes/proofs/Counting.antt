@@ -1,17 +1,27 @@
 -- The open options of a box counted and found. Assumes nothing.
-use Rattle.std.proofs.Common.{◌≡◌, ℕ, zero, suc, ◌+◌, ◌-◌, ◌*◌, ◌/◌, ◌%◌, ◌^◌, ◌<◌, ◌≤◌, Bool, true, false, cond, ◌&&◌, T, eqb, ltb, ◌⊎◌, ◌↔◌, List, length, get_or, set, replicate, sym, refl, ap, ◌∙◌, subst, inl, inr, ⊎_elim, mod-eq_of_lt, pow-suc, div-one, add-one, one-add, arith, eqb→eq, ltb→lt, lt→ltb, get_or-set_other, get_or-set_same}
+use Rattle.std.proofs.Common.{◌≡◌, ℕ, zero, suc, ◌+◌, ◌-◌, ◌*◌, ◌/◌, ◌%◌, ◌^◌, ◌<◌, ◌≤◌, Bool, true, false, not, nat_eq, cond, ◌&&◌, T, eqb, ltb, ◌⊎◌, ◌↔◌, Decides, Option, MatchOption, List, [], ◌∷◌, length, get_or, take, sym, refl, ap, ◌∙◌, subst, inl, inr, ⊎_elim, mod-eq_of_lt, add-one, one-add, arith, eqb→eq, ltb→lt, lt→ltb}
+use Rattle.std.specs.Prelude.{None, Some as Given}
 use native.Mathlib.Nat.{mod-one}
-use lib.Count.{ones, ones_cat, count_trailing_zeros, under}
-use lib.Dec.{eqb_refl}
-use Rattle.std.proofs.lemmas.Nat.{mod-pow-add, mod_below, pow_pos, one_shl}
-use Rattle.std.proofs.lemmas.List.{get_or_past, same_lists, get_or_default}
-use Rattle.std.proofs.lemmas.Bool.{cases_eq, cases_lt, eqb-true, eq-eqb}
+use lib.Count.{ones, ones_cat}
+use lib.Dec.{eqb_refl, leb}
+use lib.Pointwise.{pointwise}
+use Rattle.std.specs.Cmp.Lexicographic.{same_text, other_text}
+use Rattle.std.specs.Bool.{then_some}
+use Rattle.std.specs.Int.{bit_at, trailing_zeros, w32}
+use Rattle.std.specs.Int.RustNames.{bit_xor}
+use Rattle.std.specs.List.{sum_by, AllWithin, HoldsAt}
+use Rattle.std.proofs.lemmas.Nat.{mod-pow-add, mod_below, pow_pos, one_shl, xor_lt}
+use Rattle.std.proofs.lemmas.Nat.Bits.{bit_at-trailing_zeros, bit_at_xor, bit_at-zero, bit_at-lt, same_from_bits}
+use Rattle.std.proofs.lemmas.List.{same_lists, take_all, get_or_default}
+use Rattle.std.proofs.lemmas.List.Sums.{sum_by_more}
+use Rattle.std.proofs.lemmas.Bool.Decides.{nat_tests}
+use Rattle.std.proofs.lemmas.Bool.{cases_eq, cases_lt, eq-eqb, eqb-false, ne_eqb, leb-true, le-leb, not-true, not_from_false}
 use Rattle.subject.specs.Boxes.{Box, Inside, sum, opened_at, opened}
 use Rattle.subject.proofs.Bits as Number
-use Rattle.boxes.specs.Boxes.{Open, opens, Bit, Below, Fixed, Filled, Some, Lowest, Two, Restricted, Within, Differ}
-use Rattle.boxes.proofs.Bits.{open_low, open_same, none_open, shut_past}
+use Rattle.boxes.specs.Boxes.{Open, opens, Bit, Below, Filled, Some, Least, Lowest, Loose, Two, Within, Differ, SameBox}
+use Rattle.boxes.proofs.Bits.{open_low, open_there}
 
-both : (x y : Bool) → T (x && y) ↔ (T x × T y)
+pub both : (x y : Bool) → T (x && y) ↔ (T x × T y)
 both true true = (λ t. (tt, tt), λ t. tt)
 both true false = (λ t. absurd t, λ t. t.1)
 both false true = (λ t. absurd t, λ t. t.0)
@@ -28,9 +38,9 @@ opens_is b s o =
 
 -- ---- sums of tests
 
-sum_same : (f g : ℕ → ℕ) (n : ℕ) → ((i : ℕ) → i < n → f i ≡ g i) → sum f n ≡ sum g n
+pub sum_same : (f g : ℕ → ℕ) (n : ℕ) → ((i : ℕ) → i < n → f i ≡ g i) → sum f n ≡ sum g n
 sum_same f g zero e = refl
-sum_same f g (suc n) e = let a = sum_same f g n (λ i lt. e i (omega arith)) in let b = e n (omega arith) in omega (arith, a, b)
+sum_same f g (suc n) e = omega (arith, sum_same f g n (λ i lt. e i (omega arith)), e n (omega arith))
 
 one_of : (t : Bool) → T t → ◌≡◌ {A = ℕ} (cond t 1 0) 1
 one_of true h = refl
@@ -98,82 +108,91 @@ ones_opened b s h =
     ∙ sum_same (λ o. cond (eqb ((get_or b s 0 / 2 ^ o) % 2) 1) 1 0) (λ o. cond (opens b s o) 1 0) 32
     (λ o lt. ap (λ t. cond t 1 0) (sym (test_in b s o lt)))
 
-pub all_slots : (X : Box) → sum (opened_at X) 48 ≡ opened X
-unfolding opened
-all_slots X = refl
+-- a cell by itself
+pub ones_alone : (n : ℕ) → n < 2 ^ 32 → ones n ≡ opened_at (opens (n ∷ [])) 0
+ones_alone n h = ones_opened (n ∷ []) 0 h
 
-pub sum_more : (f : ℕ → ℕ) (n : ℕ) → sum f (n + 1) ≡ sum f n + f n
-sum_more f n = rw (add-one n)
+abbrev pub of_cell : ℕ → ℕ
+of_cell n = opened_at (opens (n ∷ [])) 0
+
+same_slot : (b : List ℕ) (s : ℕ) → opened_at (opens (get_or b s 0 ∷ [])) 0 ≡ opened_at (opens b) s
+unfolding opens
+same_slot b s = refl
+
+-- what the first cells open is what is open in the first slots
+counted : (b : List ℕ) (n : ℕ) → n ≤ length b → sum_by of_cell (take n b) ≡ sum (opened_at (opens b)) n
+counted b zero h = refl
+counted b (suc n) h = omega (arith, rw add-one at (sum_by_more of_cell b n 0 (omega arith)), counted b n (omega arith), same_slot b n)
+
+pub count_all : (b : List ℕ) → length b ≡ 48 → sum_by of_cell b ≡ opened (opens b)
+unfolding opened
+count_all b long = ap (sum_by of_cell) (sym (take_all 48 b (omega arith))) ∙ counted b 48 (omega arith)
 
 -- ---- options found
 
-pub two_ones : (b : List ℕ) (s : ℕ) → get_or b s 0 < 2 ^ 32 → 2 ≤ ones (get_or b s 0) → Two b s
+two_ones : (b : List ℕ) (s : ℕ) → get_or b s 0 < 2 ^ 32 → 2 ≤ ones (get_or b s 0) → Two b s
 two_ones b s h k =
     let w = count_two (opens b s) 32 (omega (arith, ones_opened b s h)) in
     record { one = w.0; other = w.1; apart = w.2; first = (opens_is b s w.0).0 w.4; second = (opens_is b s w.1).0 w.5 }
 
-pub ones_two : (b : List ℕ) (s : ℕ) → get_or b s 0 < 2 ^ 32 → Two b s → 2 ≤ ones (get_or b s 0)
+ones_two : (b : List ℕ) (s : ℕ) → get_or b s 0 < 2 ^ 32 → Two b s → 2 ≤ ones (get_or b s 0)
 ones_two b s h w =
     omega (arith, ones_opened b s h, two_count (opens b s) 32 w.one w.other w.apart (open_low b s w.other w.second) ((opens_is b s w.one).1 w.first) ((opens_is b s w.other).1 w.second))
 
-pub no_two : (b : List ℕ) (s : ℕ) → length b ≤ s → Two b s → ⊥
-no_two b s h w = shut_past b s w.one h w.first
+pub two_decided : (n : ℕ) → n < 2 ^ 32 → Decides (leb 2 (ones n)) (Two (n ∷ []) 0)
+two_decided n h = (λ t. two_ones (n ∷ []) 0 h (leb-true 2 (ones n) t), λ w. le-leb 2 (ones n) (ones_two (n ∷ []) 0 h w))
 
-pub some_cell : (b : List ℕ) (s : ℕ) → get_or b s 0 < 2 ^ 32 → (get_or b s 0 ≡ 0 → ⊥) → Some b s
+two_there : (b : List ℕ) (s : ℕ) → Two (get_or b s 0 ∷ []) 0 → Two b s
 unfolding Open
-some_cell b s h ne =
-    let w = Number.some_bit (get_or b s 0) (get_or b s 0) (omega arith) ne in
-    record { option = w.0; is = (Number.small_bit 32 (get_or b s 0) w.0 h w.1, w.1) }
+two_there b s w = record { one = w.one; other = w.other; apart = w.apart; first = w.first; second = w.second }
 
-pub no_cell : (b : List ℕ) (s o : ℕ) → get_or b s 0 ≡ 0 → Open b s o → ⊥
+two_alone : (b : List ℕ) (s : ℕ) → Two b s → Two (get_or b s 0 ∷ []) 0
 unfolding Open
-no_cell b s o e h = let k = Number.set_le (get_or b s 0) o h.1 in omega (arith, k, pow_pos o)
+two_alone b s w = record { one = w.one; other = w.other; apart = w.apart; first = w.first; second = w.second }
 
--- the zeros below the lowest one
-trailing_bit : (k n : ℕ) → count_trailing_zeros k n < k → (n / 2 ^ count_trailing_zeros k n) % 2 ≡ 1
-unfolding count_trailing_zeros
-trailing_bit zero n h = absurd (omega arith)
-trailing_bit (suc k) n h =
+abbrev pub Several : ℕ → Type 0
+Several n = Two (n ∷ []) 0
+
+pub loose_is : (b : List ℕ) (r : Option ℕ) → length b ≡ 48
+    → MatchOption r (AllWithin (λ n. Several n → ⊥) b 0 (length b)) (λ i. (i < length b) × HoldsAt Several b i × AllWithin (λ n. Several n → ⊥) b 0 i) → Loose b r
+loose_is b None long none = λ t w. none t 0 (omega arith) (open_there b t w.one w.first) (two_alone b t w)
+loose_is b (Given i) long h = record {
+  small = omega (arith, h.0);
+  two = two_there b i (h.1 0);
+  fixed = λ t lt w. h.2 t 0 (omega arith) lt (two_alone b t w);
+}
+
+some_cell : (b : List ℕ) (s cell : ℕ) → cell ≡ get_or b s 0 → cell < 4294967296 → (cell ≡ 0 → ⊥) → Some b s
+unfolding Open
+some_cell b s cell e h ne =
+    let w = Number.some_bit cell cell (omega arith) ne in
+    record { option = w.0; is = (Number.small_bit 32 cell w.0 h w.1, subst (λ n. bit_at n w.0 ≡ 1) e w.1) }
+
+no_cell : (b : List ℕ) (s cell : ℕ) → cell ≡ get_or b s 0 → cell ≡ 0 → Some b s → ⊥
+unfolding Open
+no_cell b s cell e z w = let k = Number.set_le (get_or b s 0) w.option w.is.1 in omega (arith, k, pow_pos w.option)
+
+pub some_decided : (b : List ℕ) (s cell : ℕ) → cell ≡ get_or b s 0 → cell < 4294967296 → Decides (not (nat_eq cell 0)) (Some b s)
+some_decided b s cell e h =
+    (λ t. some_cell b s cell e h (eqb-false cell 0 (not-true _ t)), λ w. not_from_false _ (ne_eqb cell 0 (λ z. no_cell b s cell e z w)))
+
+pub lowest_is : (b : List ℕ) (s cell : ℕ) (r : Option ℕ) → cell ≡ get_or b s 0 → cell < 4294967296 → r ≡ then_some (not (nat_eq cell 0)) (trailing_zeros w32 cell) → Lowest b s r
+unfolding Open
+lowest_is b s cell r e h is =
+    let k = trailing_zeros w32 cell in
     ⊎_elim
-    (λ e. subst (λ d. (n / 2 ^ under d (count_trailing_zeros k (n / 2))) % 2 ≡ 1) (sym e) ((Number.low n).1 e))
+    (λ z. subst (Lowest b s) (sym (is ∙ ap (λ t. then_some (not t) k) (eq-eqb cell 0 z))) (no_cell b s cell e z))
     (λ ne.
-    let z : n % 2 ≡ 0 = omega arith in
-    let h' : suc (count_trailing_zeros k (n / 2)) < suc k = subst (λ d. under d (count_trailing_zeros k (n / 2)) < suc k) z h in
-    subst (λ d. (n / 2 ^ under d (count_trailing_zeros k (n / 2))) % 2 ≡ 1) (sym z) ((Number.high n (count_trailing_zeros k (n / 2))).0 (trailing_bit k (n / 2) (omega arith))))
-    (cases_eq (n % 2) 1)
-
-trailing_least : (k n p : ℕ) → p < k → (n / 2 ^ p) % 2 ≡ 1 → count_trailing_zeros k n ≤ p
-unfolding count_trailing_zeros
-trailing_least zero n p h b = absurd (omega arith)
-trailing_least (suc k) n zero h b = subst (λ d. under d (count_trailing_zeros k (n / 2)) ≤ 0) (sym ((Number.low n).0 b)) (omega arith)
-trailing_least (suc k) n (suc p) h b =
-    let i = trailing_least k (n / 2) p (omega arith) ((Number.high n p).1 b) in
-    ⊎_elim
-    (λ e. subst (λ d. under d (count_trailing_zeros k (n / 2)) ≤ suc p) (sym e) (omega arith))
-    (λ ne. let z : n % 2 ≡ 0 = omega arith in subst (λ d. under d (count_trailing_zeros k (n / 2)) ≤ suc p) (sym z) (omega (arith, i)))
-    (cases_eq (n % 2) 1)
-
-trailing_small : (k n : ℕ) → count_trailing_zeros k n ≤ k
-unfolding count_trailing_zeros
-trailing_small zero n = omega arith
-trailing_small (suc k) n =
-    let i = trailing_small k (n / 2) in
-    ⊎_elim
-    (λ e. subst (λ d. under d (count_trailing_zeros k (n / 2)) ≤ suc k) (sym e) (omega arith))
-    (λ ne. let z : n % 2 ≡ 0 = omega arith in subst (λ d. under d (count_trailing_zeros k (n / 2)) ≤ suc k) (sym z) (omega (arith, i)))
-    (cases_eq (n % 2) 1)
-
-pub lowest_is : (b : List ℕ) (s o : ℕ) → o ≡ count_trailing_zeros 32 (get_or b s 0) → Lowest b s o
-unfolding Open
-lowest_is b s o e =
-    subst (Lowest b s) (sym e) (record {
-      small = trailing_small 32 (get_or b s 0);
-      is = λ h. (h, trailing_bit 32 (get_or b s 0) h);
-      least = λ u h. trailing_least 32 (get_or b s 0) u h.0 h.1;
-    })
-
-pub lowest_none : (b : List ℕ) (s : ℕ) → length b ≤ s → Lowest b s 32
-lowest_none b s h = record { small = omega arith; is = λ k. absurd (omega arith); least = λ u k. absurd (shut_past b s u h k) }
+    let t = bit_at-trailing_zeros w32 cell (omega arith) h in
+    let least : Least b s k = record {
+      is = (t.0, subst (λ x. bit_at x k ≡ 1) e t.1);
+      least = λ u o. ⊎_elim
+          (λ lt. absurd (let z : ◌≡◌ {A = ℕ} 0 1 = sym (t.2 u lt) ∙ subst (λ x. bit_at x u ≡ 1) (sym e) o.1 in omega arith))
+          (λ le. le)
+          (cases_lt u k);
+    } in
+    subst (Lowest b s) (sym (is ∙ ap (λ t. then_some (not t) k) (ne_eqb cell 0 ne))) least)
+    (cases_eq cell 0)
 
 -- ---- masks
 
@@ -190,77 +209,32 @@ below_some n m h e =
       all = λ o k l. Number.ones_bit n o k;
     })
 
-fixed_to : (b c : List ℕ) (s o mask : ℕ) → ((u : ℕ) → Bit mask u → u ≡ o) → (Open b s o → Bit mask o) → Restricted b c s mask → Fixed b c s o
-fixed_to b c s o mask only is r =
-    record { less = r.less; alone = λ u h. only u (r.masked u h); here = λ h. r.more o h (is h); rest = r.rest }
+-- ---- a box filled
 
-pub fixed_one : (b c : List ℕ) (s o mask : ℕ) → o < 32 → mask ≡ (1 * 2 ^ o) % 4294967296 → Restricted b c s mask → Fixed b c s o
-unfolding Bit
-fixed_one b c s o mask h e r =
-    let q : mask ≡ 2 ^ o = e ∙ one_shl o 32 h in
-    fixed_to b c s o mask (λ u k. (Number.one_bit o u).0 (subst (λ x. Bit x u) q k)) (λ _. subst (λ x. Bit x o) (sym q) ((Number.one_bit o o).1 refl)) r
-
-pub fixed_past : (b c : List ℕ) (s o : ℕ) → 32 ≤ o → Restricted b c s 0 → Fixed b c s o
-unfolding Bit
-fixed_past b c s o h r =
-    fixed_to b c s o 0 (λ u k. let z = Number.set_le 0 u k in absurd (omega (arith, pow_pos u))) (λ k. let z = open_low b s o k in absurd (omega arith)) r
-
--- ---- a box filled slot by slot
-
--- the first n slots are filled
-pub record Filling (sizes c : List ℕ) (n : ℕ) : Type 0 where
-  pub long : length c ≡ 48
-  pub real : (s o : ℕ) → Open c s o → o < get_or sizes s 0
-  pub all : (s o : ℕ) → s < n → o < 32 → o < get_or sizes s 0 → Open c s o
-
-pub filling_none : (sizes : List ℕ) → Filling sizes (replicate 48 0) 0
-filling_none sizes = record { long = refl; real = λ s o h. absurd (none_open s o h); all = λ s o h. absurd (omega arith) }
-
-pub filling_more : (sizes c : List ℕ) (n m : ℕ) → n < 48 → Below m (get_or sizes n 0) → Filling sizes c n → Filling sizes (set c n m) (n + 1)
+pub filled : (sizes c : List ℕ) → length c ≡ 48 → ((s : ℕ) → s < 48 → Below (get_or c s 0) (get_or sizes s 0)) → Filled sizes c
 unfolding Open Bit
-filling_more sizes c n m h below was =
-    let here : get_or (set c n m) n 0 ≡ m = get_or-set_same c n m 0 (omega (arith, was.long)) in
-    let there : (s : ℕ) → (s ≡ n → ⊥) → get_or (set c n m) s 0 ≡ get_or c s 0 = λ s ne. get_or-set_other c n s m 0 ne in
-    record {
-      long = simp lib.ListN.length-set was.long;
-      real = λ s o k. ⊎_elim
-          (λ e. subst (λ t. o < get_or sizes t 0) (sym e) (below.only o (subst (λ x. (x / 2 ^ o) % 2 ≡ 1) (ap (λ t. get_or (set c n m) t 0) e ∙ here) k.1)).0)
-          (λ ne. was.real s o (open_same (set c n m) c s o (sym (there s ne)) k))
-          (cases_eq s n);
-      all = λ s o l k z. ⊎_elim
-          (λ e. (k, subst (λ x. (x / 2 ^ o) % 2 ≡ 1) (sym (ap (λ t. get_or (set c n m) t 0) e ∙ here)) (below.all o (subst (λ t. o < get_or sizes t 0) e z) k)))
-          (λ ne. open_same c (set c n m) s o (there s ne) (was.all s o (omega arith) k z))
-          (cases_eq s n);
-    }
-
-pub filled_up : (sizes c : List ℕ) (n : ℕ) → (48 ≤ n) ⊎ (length sizes ≤ n) → Filling sizes c n → Filled sizes c
-filled_up sizes c n end was = record {
-  real = was.real;
-  all = λ s o h k z. was.all s o (⊎_elim (λ e. omega arith) (λ e. ⊎_elim (λ l. l) (λ past. absurd (let q : get_or sizes s 0 ≡ 0 = get_or_past sizes s 0 (omega arith) in omega arith)) (cases_lt s n)) end) k z;
+filled sizes c long cells = record {
+  real = λ s o h. let lt = open_there c s o h in ((cells s (omega arith)).only o h.1).0;
+  all = λ s o hs ho lt. (ho, (cells s hs).all o lt ho);
 }
 
 -- ---- boxes compared
 
 -- different numbers differ in a bit
 differ_bit : (w x y : ℕ) → x < 2 ^ w → y < 2 ^ w → (x ≡ y → ⊥) → (o : ℕ) × (o < w) × ((x / 2 ^ o) % 2 ≡ (y / 2 ^ o) % 2 → ⊥)
-differ_bit zero x y hx hy ne = absurd (ne (omega arith))
-differ_bit (suc w) x y hx hy ne =
-    ⊎_elim
-    (λ e.
-    let i = differ_bit w (x / 2) (y / 2) (omega (arith, pow-suc 2 w)) (omega (arith, pow-suc 2 w)) (λ h. ne (omega arith)) in
-    (suc i.0, omega (arith, i.1), λ h. i.2 (ap (λ n. n % 2) (Number.half_bit x i.0) ∙ h ∙ sym (ap (λ n. n % 2) (Number.half_bit y i.0)))))
-    (λ d. (0, omega arith, λ h. d (sym (ap (λ n. n % 2) (div-one x)) ∙ h ∙ ap (λ n. n % 2) (div-one y))))
-    (cases_eq (x % 2) (y % 2))
+differ_bit w x y hx hy ne =
+    let same : bit_xor x y ≡ 0 → (i : ℕ) → bit_at x i ≡ bit_at y i = λ z i.
+    let e : (bit_at x i + bit_at y i) % 2 ≡ 0 = sym (bit_at_xor x y i) ∙ ap (λ n. bit_at n i) z ∙ bit_at-zero i in
+    omega (arith, e, bit_at-lt x i, bit_at-lt y i) in
+    let k = Number.some_bit (bit_xor x y) (bit_xor x y) (omega arith) (λ z. ne (same_from_bits x y (same z))) in
+    let d = bit_at_xor x y k.0 in
+    (k.0, Number.small_bit w (bit_xor x y) k.0 (xor_lt w x y hx hy) k.1, λ e. omega (arith, d, k.1, e))
 
 -- equal tests of two bits mean equal bits
 bits_from : (x y : ℕ) → x < 2 → y < 2 → eqb x 1 ≡ eqb y 1 → x ≡ y
-bits_from x y hx hy e =
-    ⊎_elim
-    (λ p. p ∙ sym (eqb-true y 1 (sym e ∙ eq-eqb x 1 p)))
-    (λ np. ⊎_elim (λ q. absurd (np (eqb-true x 1 (e ∙ eq-eqb y 1 q)))) (λ nq. omega arith) (cases_eq y 1))
-    (cases_eq x 1)
+bits_from x y hx hy e = grind (arith, nat_tests)
 
-pub differ_at : (b c : List ℕ) (s : ℕ) → s < 48 → get_or b s 0 < 2 ^ 32 → get_or c s 0 < 2 ^ 32 → (get_or b s 0 ≡ get_or c s 0 → ⊥) → Differ b c
+differ_at : (b c : List ℕ) (s : ℕ) → s < 48 → get_or b s 0 < 2 ^ 32 → get_or c s 0 < 2 ^ 32 → (get_or b s 0 ≡ get_or c s 0 → ⊥) → Differ b c
 differ_at b c s h hb hc ne =
     let w = differ_bit 32 (get_or b s 0) (get_or c s 0) hb hc ne in
     record {
@@ -270,9 +244,27 @@ differ_at b c s h hb hc ne =
       apart = λ e. w.2 (bits_from _ _ (omega arith) (omega arith) (sym (test_in b s w.0 w.1) ∙ e ∙ test_in c s w.0 w.1));
     }
 
-pub same_cells : (b c : List ℕ) → length b ≡ 48 → length c ≡ 48 → ((t : ℕ) → t < 48 → get_or b t 0 ≡ get_or c t 0) → b ≡ c
-same_cells b c lb lc e =
-    same_lists b c (lb ∙ sym lc) (λ i d h. get_or_default b i d 0 h ∙ e i (omega arith) ∙ sym (get_or_default c i d 0 (omega arith)))
+-- the first cells are the same, or some are not
+compared : (b c : List ℕ) (n : ℕ) → ((t : ℕ) → t < n → get_or b t 0 ≡ get_or c t 0) ⊎ ((t : ℕ) × (t < n) × (get_or b t 0 ≡ get_or c t 0 → ⊥))
+compared b c zero = inl (λ t h. absurd (omega arith))
+compared b c (suc n) =
+    ⊎_elim
+    (λ same. ⊎_elim
+    (λ e. inl (λ t h. ⊎_elim (λ k. subst (λ s. get_or b s 0 ≡ get_or c s 0) (sym k) e) (λ ne. same t (omega arith)) (cases_eq t n)))
+    (λ ne. inr (n, omega arith, ne))
+    (cases_eq (get_or b n 0) (get_or c n 0)))
+    (λ w. inr (w.0, omega (arith, w.1), w.2))
+    (compared b c n)
+
+pub same_box : (b c : List ℕ) (r : Bool) → r ≡ pointwise nat_eq b c → length b ≡ 48 → length c ≡ 48 → ((s : ℕ) → get_or b s 0 < 2 ^ 32) → ((s : ℕ) → get_or c s 0 < 2 ^ 32) → SameBox b c r
+same_box b c true e lb lc hb hc = record { same = λ _. same_text b c e; other = λ f. absurd (f tt) }
+same_box b c false e lb lc hb hc = record {
+  same = λ t. absurd t;
+  other = λ _. ⊎_elim
+      (λ same. absurd (other_text b c e (same_lists b c (lb ∙ sym lc) (λ i d h. get_or_default b i d 0 h ∙ same i (omega arith) ∙ sym (get_or_default c i d 0 (omega arith))))))
+      (λ w. differ_at b c w.0 w.1 (hb w.0) (hc w.0) w.2)
+      (compared b c 48);
+}
 
 -- what is open in a smaller box is fewer
 sum_le : (f g : ℕ → ℕ) (n : ℕ) → ((i : ℕ) → f i ≤ g i) → sum f n ≤ sum g n
@@ -288,10 +280,9 @@ sum_lt f g (suc n) k h le lt =
     (cases_eq k n)
 
 one_le : (s t : Bool) → (T s → T t) → ◌≤◌ (cond s 1 0) (cond t 1 0)
-one_le true true h = omega arith
 one_le true false h = absurd (h tt)
-one_le false true h = omega arith
-one_le false false h = omega arith
+one_le true true h = omega arith
+one_le false t h = omega arith
 
 one_lt : (s t : Bool) → (T s → ⊥) → T t → ◌<◌ (cond s 1 0) (cond t 1 0)
 one_lt true t h k = absurd (h tt)
@@ -305,14 +296,16 @@ opened_lt X Y s o sub hs ho no' yes' =
     (λ t. sum_le (λ p. cond (X t p) 1 0) (λ p. cond (Y t p) 1 0) 32 (λ p. one_le (X t p) (Y t p) (sub t p)))
     (sum_lt (λ p. cond (X s p) 1 0) (λ p. cond (Y s p) 1 0) 32 o ho (λ p. one_le (X s p) (Y s p) (sub s p)) (one_lt (X s o) (Y s o) no' yes'))
 
+-- two tests that differ, where the first implies the second
+opens_one : (t u : Bool) → (t ≡ u → ⊥) → (T t → T u) → (T t → ⊥) × T u
+opens_one true true ne h = absurd (ne refl)
+opens_one true false ne h = absurd (h tt)
+opens_one false true ne h = (λ t. t, tt)
+opens_one false false ne h = absurd (ne refl)
+
 -- a box within another that differs from it opens fewer options
 pub differ_less : (b c : List ℕ) → Within c b → Differ c b → opened (opens c) < opened (opens b)
 differ_less b c less d =
     let sub : Inside (opens c) (opens b) = λ s o t. (opens_is b s o).1 (less s o ((opens_is c s o).0 t)) in
-    go sub (opens c d.slot d.option) (opens b d.slot d.option) refl refl
-  where
-    go : Inside (opens c) (opens b) → (t u : Bool) → t ≡ opens c d.slot d.option → u ≡ opens b d.slot d.option → opened (opens c) < opened (opens b)
-    go sub true true p q = absurd (d.apart (sym p ∙ q))
-    go sub false false p q = absurd (d.apart (sym p ∙ q))
-    go sub true false p q = absurd (subst T (sym q) (sub d.slot d.option (subst T p tt)))
-    go sub false true p q = opened_lt (opens c) (opens b) d.slot d.option sub d.there.0 d.there.1 (λ t. subst T (sym p) t) (subst T q tt)
+    let one = opens_one (opens c d.slot d.option) (opens b d.slot d.option) d.apart (sub d.slot d.option) in
+    opened_lt (opens c) (opens b) d.slot d.option sub d.there.0 d.there.1 one.0 one.1

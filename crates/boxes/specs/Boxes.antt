@@ -1,5 +1,5 @@
 -- What a box says: of each of 48 slots, which of 32 options are open. Assumes nothing.
-use Rattle.std.specs.Prelude.{◌≡◌, ℕ, ◌/◌, ◌%◌, ◌^◌, ◌<◌, ◌≤◌, Bool, ◌&&◌, T, List, length, ◌==◌, ◌≢◌, nat_lt, slice_index}
+use Rattle.std.specs.Prelude.{◌≡◌, ℕ, ◌/◌, ◌%◌, ◌^◌, ◌<◌, ◌≤◌, Bool, ◌&&◌, T, List, length, ◌==◌, ◌≢◌, Option, MatchOption, nat_lt, slice_index}
 use Rattle.subject.specs.Boxes.{Box}
 
 -- option o of slot s is open: bit o of its cell is one
@@ -37,6 +37,11 @@ pub record Opened (b c : List ℕ) (s o : ℕ) : Type 0 where
 unfoldable pub Bit : ℕ → ℕ → Type 0
 Bit n o = (n / 2 ^ o) % 2 ≡ 1
 
+-- the one bit of a mask is that of option o, if a box covers it
+pub record Single (mask o : ℕ) : Type 0 where
+  pub only : (u : ℕ) → Bit mask u → (u ≡ o) × (u < 32)
+  pub here : o < 32 → Bit mask o
+
 -- the bits of a mask are those of the options below n, as far as a box covers them
 pub record Below (mask n : ℕ) : Type 0 where
   pub only : (o : ℕ) → Bit mask o → (o < n) × (o < 32)
@@ -66,11 +71,14 @@ pub record Some (b : List ℕ) (s : ℕ) : Type 0 where
   pub option : ℕ
   pub is : Open b s option
 
--- o is the lowest open option of slot s, or 32 where none is open
-pub record Lowest (b : List ℕ) (s o : ℕ) : Type 0 where
-  pub small : o ≤ 32
-  pub is : o < 32 → Open b s o
+-- o is the lowest open option of slot s
+pub record Least (b : List ℕ) (s o : ℕ) : Type 0 where
+  pub is : Open b s o
   pub least : (u : ℕ) → Open b s u → o ≤ u
+
+-- the answer is the lowest open option of slot s, or none where none is open
+abbrev pub Lowest : List ℕ → ℕ → Option ℕ → Type 0
+Lowest b s r = MatchOption r (Some b s → ⊥) (Least b s)
 
 -- two different options of slot s are open
 pub record Two (b : List ℕ) (s : ℕ) : Type 0 where
@@ -80,11 +88,15 @@ pub record Two (b : List ℕ) (s : ℕ) : Type 0 where
   pub first : Open b s one
   pub second : Open b s other
 
--- s is the lowest slot with two or more open options, or 48 where there is none
-pub record Loose (b : List ℕ) (s : ℕ) : Type 0 where
-  pub small : s ≤ 48
-  pub two : s < 48 → Two b s
+-- s is the lowest slot with two or more open options
+pub record Branching (b : List ℕ) (s : ℕ) : Type 0 where
+  pub small : s < 48
+  pub two : Two b s
   pub fixed : (t : ℕ) → t < s → Two b t → ⊥
+
+-- the answer is the lowest slot with two or more open options, or none where there is none
+abbrev pub Loose : List ℕ → Option ℕ → Type 0
+Loose b r = MatchOption r ((t : ℕ) → Two b t → ⊥) (Branching b)
 
 -- some option is open in one of two boxes and not in the other
 pub record Differ (b c : List ℕ) : Type 0 where

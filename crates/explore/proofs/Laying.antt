@@ -1,14 +1,9 @@
 -- A plan read off a box slot by slot. Assumes nothing.
-use Rattle.std.proofs.Common.{◌≡◌, ℕ, ◌+◌, ◌<◌, List, get_or, set, sym, ◌∙◌, subst, subst₂, ⊎_elim, arith, length-set, get_or-set_other, get_or-set_same}
-use Rattle.std.proofs.lemmas.Bool.{cases_eq}
+use Rattle.std.proofs.Common.{ℕ, List, Option, refl, unwrap_or}
+use Rattle.std.specs.Prelude.{None, Some as Given}
 use Rattle.boxes.specs.Boxes.{Lowest}
-use Rattle.explore.specs.Laid.{Laid}
+use Rattle.explore.specs.Laid.{Entry}
 
-pub laid_more : (c p : List ℕ) (s o : ℕ) → s < 48 → Lowest c s o → Laid c p s → Laid c (set p s o) (s + 1)
-laid_more c p s o h low was = record {
-  long = length-set p s o ∙ was.long;
-  at = λ t lt. ⊎_elim
-      (λ e. subst₂ (Lowest c) (sym e) (sym (subst (λ z. get_or (set p s o) z 0 ≡ o) (sym e) (get_or-set_same p s o 0 (omega (arith, was.long))))) low)
-      (λ ne. subst (Lowest c t) (sym (get_or-set_other p s t o 0 ne)) (was.at t (omega arith)))
-      (cases_eq t s);
-}
+pub entry_of : (c : List ℕ) (s : ℕ) (r : Option ℕ) → Lowest c s r → Entry c s (unwrap_or r 32)
+entry_of c s None h = record { lowest = λ w. absurd (h w); none = λ _. refl }
+entry_of c s (Given o) h = record { lowest = λ _. h; none = λ shut. absurd (shut (record { option = o; is = h.is })) }

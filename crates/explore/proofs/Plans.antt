@@ -1,5 +1,5 @@
 -- Plans in boxes: settling loses none, and a settled box with one option in each slot is one. Assumes nothing.
-use Rattle.std.proofs.Common.{◌≡◌, ℕ, ◌<◌, Bool, true, false, ◌&&◌, T, eqb, ltb, ◌↔◌, List, map, length, get_or, sym, refl, ap, ◌∙◌, subst, arith, eqb→eq, ltb→lt, lt→ltb}
+use Rattle.std.proofs.Common.{◌≡◌, ℕ, ◌<◌, ◌&&◌, T, eqb, ltb, ◌↔◌, List, map, length, get_or, sym, refl, ap, ◌∙◌, subst, arith, eqb→eq, ltb→lt, lt→ltb}
 use lib.Dec.{eqb_refl}
 use lib.ListN.{length-map}
 use Rattle.std.proofs.lemmas.List.{same_lists, get_or-map, get_or_default}
@@ -7,14 +7,9 @@ use Rattle.subject.specs.Problem.{Problem, Names}
 use Rattle.subject.specs.Boxes.{Box, Inside, Supported, LargestIn}
 use Rattle.subject.specs.Decisions.{Decision, Allowed, Within, Largest}
 use Rattle.subject.specs.Plans.{Plan, Meets}
+use Rattle.boxes.proofs.Counting.{both}
 use Rattle.explore.specs.Pending.{Lies}
 use Rattle.explore.specs.Narrow.{Sole}
-
-both : (a b : Bool) → T (a && b) ↔ (T a × T b)
-both true true = (λ t. (tt, tt), λ t. tt)
-both true false = (λ t. absurd t, λ t. t.1)
-both false true = (λ t. absurd t, λ t. t.0)
-both false false = (λ t. absurd t, λ t. t.0)
 
 -- the box with one plan
 single : Plan → Box

@@ -1,12 +1,13 @@
 -- The boxes of the stack, as one is split. Assumes nothing.
-use Rattle.std.proofs.Common.{◌≡◌, ℕ, suc, ◌+◌, ◌-◌, ◌<◌, ◌≤◌, T, ◌≢◌, ◌↔◌, List, [], map, length, get_or, set, sym, refl, ap, ◌∙◌, subst, subst₂, ⊎_elim, arith, length-set, get_or-set_other, get_or-set_same}
+use Rattle.std.proofs.Common.{◌≡◌, ℕ, suc, ◌+◌, ◌-◌, ◌<◌, ◌≤◌, T, ◌≢◌, ◌↔◌, Option, MatchOption, slice_get, take, List, [], map, length, get_or, set, sym, refl, ap, ◌∙◌, subst, subst₂, ⊎_elim, arith, length-set, get_or-set_other, get_or-set_same}
 use mathlib.Core.Logic.{∥∥₁_elim, ∥∥₁_map}
 use lib.ListN.{length-map}
 use lib.Seq.{map-set}
-use Rattle.std.proofs.lemmas.List.{get_or-map}
+use Rattle.std.proofs.lemmas.List.{get_or-map, length-take-le, get_or-take}
+use Rattle.std.proofs.lemmas.Option.{slice_get_cases}
 use Rattle.std.proofs.lemmas.Bool.{cases_eq, cases_lt, cases_order}
 use Rattle.subject.specs.Boxes.{Box, Inside}
-use Rattle.boxes.specs.Boxes.{Open, opens, Closed, Fixed, Lowest, Loose, Two}
+use Rattle.boxes.specs.Boxes.{Open, opens, Closed, Fixed, Least, Branching, Two}
 use Rattle.boxes.specs.declared.OptionBox.{OptionBox}
 use Rattle.boxes.proofs.Bits.{open_low, open_same}
 use Rattle.boxes.proofs.Counting.{opens_is, opened_lt}
@@ -34,6 +35,23 @@ unfolding box_at
 box_kept boxes i j b ne =
     let f : OptionBox → List ℕ = λ b. b.cells in
     ap opens (ap (λ l. get_or l j []) (map-set f boxes i b) ∙ get_or-set_other (map f boxes) i j (f b) [] ne)
+
+-- the last of the first boxes, if there is one
+pub last_box : (boxes : List OptionBox) (top : ℕ) (r : Option OptionBox) → top ≤ length boxes
+    → r ≡ slice_get (take top boxes) (length (take top boxes) - 1) → MatchOption r (top ≡ 0) (λ b. (0 < top) × (opens b.cells ≡ box_at boxes (top - 1)))
+last_box boxes top r fits e =
+    let S : List OptionBox = take top boxes in
+    let n : length S ≡ top = omega (arith, length-take-le top boxes (omega arith)) in
+    ⊎_elim
+    (λ w.
+    let some : 0 < top = omega (arith, w.1, n) in
+    let i : length S - 1 ≡ top - 1 = omega (arith, n) in
+    let at : get_or boxes (top - 1) w.0 ≡ w.0 =
+    sym (get_or-take top boxes (top - 1) w.0 (omega arith)) ∙ subst (λ k. get_or S k w.0 ≡ w.0) i w.3 in
+    subst (λ o. MatchOption o (top ≡ 0) (λ b. (0 < top) × (opens b.cells ≡ box_at boxes (top - 1)))) (sym (e ∙ w.2))
+    (some, sym (ap (λ (b : OptionBox). opens b.cells) at) ∙ box_read boxes (top - 1) w.0 (omega arith)))
+    (λ w. subst (λ o. MatchOption o (top ≡ 0) (λ b. (0 < top) × (opens b.cells ≡ box_at boxes (top - 1)))) (sym (e ∙ w.1)) (omega (arith, w.0, n)))
+    (slice_get_cases S (length S - 1)).1
 
 -- ---- one option in each of the lower slots
 
@@ -127,9 +145,6 @@ module _ (b : List ℕ) (s o : ℕ) where
         (cases_eq t s)),
   )
 
-  lowest_open : Two b s → Lowest b s o → Open b s o
-  lowest_open w low = low.is (omega (arith, low.least w.one w.first, open_low b s w.one w.first))
-
   -- another option than the lowest
   second : (w : Two b s) → (p : ℕ) × (p ≢ o) × Open b s p
   second w =
@@ -140,49 +155,48 @@ module _ (b : List ℕ) (s o : ℕ) where
 
 -- the boxes of a stack with r in the place of the next box, and f above it
 abbrev pub after : Stack → OptionBox → OptionBox → List OptionBox
-after t r f = set (set t.boxes (t.top - 1) r) (t.top - 1 + 1) f
+after t r f = set (set t.boxes (t.top - 1) r) t.top f
 
 -- what a split of b into r and f makes of the stack
 pub record Divided (t : Stack) (b r f : OptionBox) : Type 0 where
   pub split : Split (box_at t.boxes) (box_at (after t r f)) (t.top - 1) (opens b.cells)
-  pub narrow : ∥ Narrow (box_at (after t r f)) (t.top - 1 + 2) ∥₁
-  pub less : weight (box_at (after t r f)) (t.top - 1 + 2) < weight (box_at t.boxes) t.top
+  pub narrow : ∥ Narrow (box_at (after t r f)) (t.top + 1) ∥₁
+  pub less : weight (box_at (after t r f)) (t.top + 1) < weight (box_at t.boxes) t.top
 
 -- the slot where the next box is split is not below its place, so that there is room for one more box
-pub room : (t : Stack) (b : List ℕ) (s : ℕ) → 0 < t.top → Inside (opens b) (box_at t.boxes (t.top - 1)) → Loose b s → s < 48 → t.top - 1 ≤ s
-room t b s some sub loose there = split_place (box_at t.boxes) t.top (t.top - 1) b s (omega arith) t.narrow sub (loose.two there)
+pub room : (t : Stack) (b : List ℕ) (s : ℕ) → 0 < t.top → Inside (opens b) (box_at t.boxes (t.top - 1)) → Branching b s → t.top < 49
+room t b s some sub loose =
+    let place = split_place (box_at t.boxes) t.top (t.top - 1) b s (omega arith) t.narrow sub loose.two in omega (arith, loose.small)
 
 module _ (t : Stack) (b r f : OptionBox) (s o : ℕ) (some : 0 < t.top) (sub : Inside (opens b.cells) (box_at t.boxes (t.top - 1)))
-    (loose : Loose b.cells s) (there : s < 48) (low : Lowest b.cells s o) (closed : Closed b.cells r.cells s o) (fixed : Fixed b.cells f.cells s o) where
+    (loose : Branching b.cells s) (low : Least b.cells s o) (closed : Closed b.cells r.cells s o) (fixed : Fixed b.cells f.cells s o) where
   place : t.top - 1 ≤ s
-  place = room t b.cells s some sub loose there
+  place = split_place (box_at t.boxes) t.top (t.top - 1) b.cells s (omega arith) t.narrow sub loose.two
 
   at_rest : box_at (after t r f) (t.top - 1) ≡ opens r.cells
   at_rest =
-      let h : t.top - 1 < length t.boxes = omega (arith, place, t.tall.1) in
-      box_kept (set t.boxes (t.top - 1) r) (t.top - 1 + 1) (t.top - 1) f (λ e. omega arith) ∙ box_set t.boxes (t.top - 1) r h
+      let h : t.top - 1 < length t.boxes = omega (arith, place, loose.small, t.tall.1) in
+      box_kept (set t.boxes (t.top - 1) r) t.top (t.top - 1) f (λ e. omega arith) ∙ box_set t.boxes (t.top - 1) r h
 
   at_first : box_at (after t r f) (suc (t.top - 1)) ≡ opens f.cells
   at_first =
-      let e : suc (t.top - 1) ≡ t.top - 1 + 1 = omega arith in
-      let h : t.top - 1 + 1 < length (set t.boxes (t.top - 1) r) = rw length-set (omega (arith, place, t.tall.1)) in
-      ap (box_at (after t r f)) e ∙ box_set (set t.boxes (t.top - 1) r) (t.top - 1 + 1) f h
+      let e : suc (t.top - 1) ≡ t.top = omega arith in
+      let h : t.top < length (set t.boxes (t.top - 1) r) = rw length-set (omega (arith, place, loose.small, t.tall.1)) in
+      ap (box_at (after t r f)) e ∙ box_set (set t.boxes (t.top - 1) r) t.top f h
 
   splits : Split (box_at t.boxes) (box_at (after t r f)) (t.top - 1) (opens b.cells)
   splits =
-      let w = loose.two there in
-      let p = second b.cells s o w in
+      let p = second b.cells s o loose.two in
       record {
         slot = s;
         option = o;
         sole = λ u h. sole_from b.cells u (loose.fixed u h);
-        here = (opens_is b.cells s o).1 (lowest_open b.cells s o w low);
+        here = (opens_is b.cells s o).1 low.is;
         lowest = λ q h. low.least q ((opens_is b.cells s q).0 h);
         other = p.0;
         apart = p.1;
         also = (opens_is b.cells s p.0).1 p.2;
-        below = λ j h.
-            box_kept (set t.boxes (t.top - 1) r) (t.top - 1 + 1) j f (λ e. omega arith) ∙ box_kept t.boxes (t.top - 1) j r (λ e. omega arith);
+        below = λ j h. box_kept (set t.boxes (t.top - 1) r) t.top j f (λ e. omega arith) ∙ box_kept t.boxes (t.top - 1) j r (λ e. omega arith);
         rest = subst (λ Y. (u p : ℕ) → T (Y u p) ↔ (T (opens b.cells u p) × ((u ≡ s) × (p ≡ o) → ⊥))) (sym at_rest)
             (rest_is b.cells s o r.cells closed);
         first = subst (λ Y. (u p : ℕ) → T (Y u p) ↔ (T (opens b.cells u p) × ((u ≡ s) × (p ≢ o) → ⊥))) (sym at_first)
@@ -192,7 +206,7 @@ module _ (t : Stack) (b r f : OptionBox) (s o : ℕ) (some : 0 < t.top) (sub : I
   pub divided : Divided t b r f
   unfolding splits
   divided =
-      let more : suc (suc (t.top - 1)) ≡ t.top - 1 + 2 = omega arith in
+      let more : suc (suc (t.top - 1)) ≡ t.top + 1 = omega arith in
       let high : suc (t.top - 1) ≡ t.top = omega arith in
       let small : (q : ℕ) → T (opens b.cells s q) → q < 32 = λ q h. open_low b.cells s q ((opens_is b.cells s q).0 h) in
       record {
@@ -200,5 +214,5 @@ module _ (t : Stack) (b r f : OptionBox) (s o : ℕ) (some : 0 < t.top) (sub : I
         narrow = subst (λ k. ∥ Narrow (box_at (after t r f)) k ∥₁) more
             (∥∥₁_map t.narrow (λ n. narrow_split _ _ (t.top - 1) (opens b.cells) splits sub place (subst (Narrow (box_at t.boxes)) (sym high) n)));
         less = subst₂ (λ x y. weight (box_at (after t r f)) x < weight (box_at t.boxes) y) more high
-            (lighter_split _ _ (t.top - 1) (opens b.cells) splits sub there small);
+            (lighter_split _ _ (t.top - 1) (opens b.cells) splits sub loose.small small);
       }

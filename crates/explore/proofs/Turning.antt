@@ -8,8 +8,8 @@ use Rattle.subject.specs.Decisions as Subject
 use Rattle.subject.specs.Plans.{Plan, First, NoMore}
 use Rattle.subject.proofs.Largest.{largest_within}
 use Rattle.subject.proofs.Standing.{open_real}
-use Rattle.boxes.specs.Boxes.{Open, opens, Some, Loose}
-use Rattle.boxes.proofs.Bits.{open_low, open_there}
+use Rattle.boxes.specs.Boxes.{opens, Some, Two}
+use Rattle.boxes.proofs.Bits.{open_there}
 use Rattle.boxes.proofs.Counting.{opens_is}
 use Rattle.binder.specs.Meaning.{Binding, Proper, Noted}
 use Rattle.settle.specs.Keeping.{Has, Keeps}
@@ -104,7 +104,7 @@ module _ (K J : ℕ → Box) (top i t : ℕ) (n k o : Binding) (slots : ℕ) (b 
         shut (record { option = get_or q 0 0; is = (opens_is c 0 (get_or q 0 0)).0 z })))
 
     -- each slot has one open option
-    pub turn_found : Proper n → Some c 0 → length c ≡ 48 → Loose c 48 → (p : List ℕ) → Laid c p 48
+    pub turn_found : Proper n → Some c 0 → length c ≡ 48 → ((s : ℕ) → Two c s → ⊥) → (p : List ℕ) → Laid c p 48
         → First P D G (take (length P.sizes) p) × Exploring P D (take (length P.sizes) p ∷ G) X m J t o
     turn_found proper some long loose p laid =
         let here : T (opens c 0 some.option) = (opens_is c 0 some.option).1 some.is in
@@ -112,7 +112,7 @@ module _ (K J : ℕ → Box) (top i t : ℕ) (n k o : Binding) (slots : ℕ) (b 
         let sup = settled_supported P (K i) (opens c) big 0 some.option here in
         let few : (s : ℕ) → s < length P.sizes → s < 48 =
         λ s h. let a = sup.alive s h in omega (arith, open_there c s a.0 ((opens_is c s a.0).0 a.1)) in
-        let sole : (s : ℕ) → s < length P.sizes → Sole (opens c) s = λ s h. sole_from c s (loose.fixed s (few s h)) in
+        let sole : (s : ℕ) → s < length P.sizes → Sole (opens c) s = λ s h. sole_from c s (loose s) in
         let q : Plan = take (length P.sizes) p in
         let lies : Lies P (opens c) q = record { long = length-take (length P.sizes) p ∙ fits few; at = λ s h. at_slot sup s h (few s h) } in
         let within : Within D (opens c) = λ s o t. largest_within P D X was.largest s o (was.inside i (omega arith) s o (settled_in s o t)) in
@@ -130,10 +130,8 @@ module _ (K J : ℕ → Box) (top i t : ℕ) (n k o : Binding) (slots : ℕ) (b 
         at_slot : Supported P (opens c) → (s : ℕ) → s < length P.sizes → s < 48 → T (opens c s (get_or (take (length P.sizes) p) s 0))
         at_slot sup s h lt =
             let a = sup.alive s h in
-            let l = laid.at s lt in
-            let u : Open c s a.0 = (opens_is c s a.0).0 a.1 in
-            let low : get_or p s 0 < 32 = omega (arith, l.least a.0 u, open_low c s a.0 u) in
-            subst (λ x. T (opens c s x)) (sym (get_or-take (length P.sizes) p s 0 h)) ((opens_is c s (get_or p s 0)).1 (l.is low))
+            let low = (laid.at s lt).lowest (record { option = a.0; is = (opens_is c s a.0).0 a.1 }) in
+            subst (λ x. T (opens c s x)) (sym (get_or-take (length P.sizes) p s 0 h)) ((opens_is c s (get_or p s 0)).1 low.is)
 
   -- a slot has several
   pub turn_split : t ≡ top + 1 → Split K J i (opens c) → Noted k o → Exploring P D G X m J t o

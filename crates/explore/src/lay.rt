@@ -1,15 +1,16 @@
 // Reads a plan off a box.
-ghost use Rattle.explore.specs.Laid.{Laid};
+ghost use Rattle.explore.specs.Laid.{Entry, Laid};
 
-use boxes::{OptionBox, SLOTS};
+use boxes::{OPTIONS, OptionBox};
+use std::array;
 
-// The lowest open option of each slot.
+// The lowest open option of each slot, and 32 where a slot has none.
 pub(crate) fn lay(slate: &OptionBox) -> [u8; 48]
     ensures { Laid slate.now.cells result 48 }
 {
-    let mut plan = [0; 48];
-    for slot in 0..SLOTS {
-        plan[slot] = slate.lowest(slot);
-    }
-    plan
+    array::from_fn(
+        |slot|
+            ensures { Entry slate.entry.now.cells slot result }
+        { slate.lowest(slot).unwrap_or(OPTIONS) },
+    )
 }

@@ -1,7 +1,7 @@
 // What an exploration does with its stack of boxes.
-ghost use Rattle.std.specs.Prelude.{◌≡◌, ◌+◌, ◌-◌, ◌<◌};
+ghost use Rattle.std.specs.Prelude.{◌≡◌, ◌+◌, ◌-◌, ◌<◌, MatchOption};
 ghost use Rattle.subject.specs.Boxes.{Inside};
-ghost use Rattle.boxes.specs.Boxes.{opens, Loose};
+ghost use Rattle.boxes.specs.Boxes.{opens, Branching};
 ghost use Rattle.explore.specs.Rewound.{Rewound};
 ghost use Rattle.explore.specs.Split.{Split as SplitAt};
 ghost use Rattle.explore.specs.Stacks.{height, pending, weight_of};
@@ -23,12 +23,11 @@ impl Stack {
         }
     }
 
-    // The box that is explored next.
-    pub(crate) fn next(&self) -> OptionBox
-        requires { 0 < height self.now }
-        ensures { opens result.cells ≡ pending self.now (height self.now - 1) }
+    // The box that is explored next, if one is left.
+    pub(crate) fn next(&self) -> Option<OptionBox>
+        ensures { MatchOption result (height self.now ≡ 0) (λ slate. (0 < height self.now) × (opens slate.cells ≡ pending self.now (height self.now - 1))) }
     {
-        self.boxes[self.top - 1]
+        self.boxes[..self.top].last().copied()
     }
 
     // Drops the next box, and undoes its mark.
@@ -47,19 +46,18 @@ impl Stack {
     pub(crate) fn split(&mut self, slate: &OptionBox, slot: usize)
         requires top { 0 < height self.old }
         requires inside { Inside (opens slate.now.cells) (pending self.old (height self.old - 1)) }
-        requires loose { (Loose slate.now.cells slot) × (slot < 48) }
+        requires loose { Branching slate.now.cells slot }
         ensures top { height self.new ≡ height self.old + 1 }
         ensures split { SplitAt (pending self.old) (pending self.new) (height self.old - 1) (opens slate.now.cells) }
         ensures less { weight_of self.new < weight_of self.old }
     {
-        let option = slate.lowest(slot);
+        let option = slate.lowest(slot).unwrap();
         let mut rest = *slate;
         rest.close(slot, option);
         let mut part = *slate;
         part.fix(slot, option);
-        let i = self.top - 1;
-        self.boxes[i] = rest;
-        self.boxes[i + 1] = part;
-        self.top = i + 2;
+        self.boxes[self.top - 1] = rest;
+        self.boxes[self.top] = part;
+        self.top += 1;
     }
 }

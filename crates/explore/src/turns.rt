@@ -16,7 +16,6 @@ use crate::outcome::Outcome;
 use crate::rewind::rewind;
 use crate::stack::Stack;
 use binder::binders::Binder;
-use boxes::SLOTS;
 use settle::settle;
 
 impl Stack {
@@ -31,21 +30,18 @@ impl Stack {
             (weight_of self.new < weight_of self.old) }
         ensures long { Long result }
     {
-        if self.top == 0 {
+        let Some(mut slate) = self.next() else {
             return Outcome::Empty;
-        }
-        let mut slate = self.next();
+        };
         settle(binder, slots, &mut slate);
         if !slate.has_open(0) {
             self.drop_next(binder);
             return Outcome::Dry;
         }
-        let slot = slate.loose();
-        if slot == SLOTS {
+        let Some(slot) = slate.loose() else {
             self.drop_next(binder);
-            let plan = lay(&slate);
-            return Outcome::Found(plan);
-        }
+            return Outcome::Found(lay(&slate));
+        };
         self.split(&slate, slot);
         let _ = binder.mark();
         Outcome::Split

@@ -1,3 +1,4 @@
 pub mod Tight
 pub mod Keeping
 pub mod Ways
+pub mod Living

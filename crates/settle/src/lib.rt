@@ -21,12 +21,7 @@ fn round<B: Binder>(binder: &mut B, slate: &mut OptionBox)
 fn alive(slate: &OptionBox, slots: usize) -> bool
     ensures { Decides result (Alive slate.now.cells slots) }
 {
-    for slot in 0..slots {
-        if !slate.has_open(slot) {
-            return false;
-        }
-    }
-    true
+    (0..slots).all(|slot| slate.has_open(slot))
 }
 
 // Shows every sheet again and again, until a round closes nothing. Where a slot has no open option left, no

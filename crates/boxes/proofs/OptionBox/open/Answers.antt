@@ -1,16 +1,8 @@
-use Rattle.std.proofs.Common.{sym, ◌∙◌, arith}
-use Rattle.std.proofs.lemmas.Bool.{false≢true}
-use Rattle.boxes.proofs.Bits.{opened, opened_same}
+use Rattle.boxes.proofs.Bits.{opened, opened_past}
 use Rattle.boxes.proofs.OptionBox.open.Goals as goal
 
-pub returns-then-slot-ge-SLOTS : goal.returns-then-slot-ge-SLOTS
-returns-then-slot-ge-SLOTS c = opened_same c.args.self.now.cells c.args.slot c.args.option (λ l k. absurd (omega arith))
+pub returns-then-slot-lt-SLOTS : goal.returns-then-slot-lt-SLOTS
+returns-then-slot-lt-SLOTS c = opened c.args.self.now.cells c.args.slot c.args.option _ c.args.self.now.long c.if-slot-lt-SLOTS.true c.bit.ensures
 
-pub returns-then-option-ge-OPTIONS : goal.returns-then-option-ge-OPTIONS
-returns-then-option-ge-OPTIONS c = opened_same c.args.self.now.cells c.args.slot c.args.option (λ l k. absurd (omega arith))
-
-pub returns-then-is_open : goal.returns-then-is_open
-returns-then-is_open c = opened_same c.args.self.now.cells c.args.slot c.args.option (λ l k. c.is_open.ensures.0 c.if-is_open.true)
-
-pub returns : goal.returns
-returns c = opened c.args.self.now.cells c.args.slot c.args.option (omega arith) (omega arith) (λ h. false≢true (sym c.if-is_open.false ∙ c.is_open.ensures.1 h))
+pub returns-else-slot-lt-SLOTS : goal.returns-else-slot-lt-SLOTS
+returns-else-slot-lt-SLOTS c = opened_past c.args.self.now.cells c.args.slot c.args.option c.if-slot-lt-SLOTS.false

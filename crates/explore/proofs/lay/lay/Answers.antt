@@ -1,5 +1,10 @@
-use Rattle.explore.proofs.Laying.{laid_more}
+use Rattle.std.proofs.Common.{arith, rules, tests}
+use Rattle.boxes.proofs.Made.{made}
+use Rattle.explore.specs.Laid.{Entry}
 use Rattle.explore.proofs.lay.lay.Goals as goal
 
-pub loop-slot-preserved : goal.loop-slot-preserved
-loop-slot-preserved c = laid_more _ _ c.loop-slot.slot c.lowest.result c.loop-slot-test.true c.lowest.ensures c.loop-slot.invariant
+pub returns : goal.returns
+returns c = record {
+  long = c.from_fn.ensures.items.long;
+  at = λ s h. made _ _ (Entry c.args.slate.now.cells) (λ k y q call. search (rules, tests)) _ 0 48 c.from_fn.ensures.items.each s 0 (omega arith) h;
+}

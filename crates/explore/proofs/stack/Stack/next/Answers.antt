@@ -1,9 +1,6 @@
-use Rattle.std.proofs.Common.{◌-◌, ◌<◌, length, arith}
-use Rattle.explore.proofs.Stacking.{box_read}
+use Rattle.std.proofs.Common.{◌∙◌, arith}
+use Rattle.explore.proofs.Stacking.{last_box}
 use Rattle.explore.proofs.stack.Stack.next.Goals as goal
 
 pub returns : goal.returns
-returns c =
-    let t = c.args.self.now in
-    let h : t.top - 1 < length t.boxes = omega (arith, t.tall.0, t.tall.1, c.requires) in
-    box_read t.boxes (t.top - 1) _ h
+returns c = let t = c.args.self.now in last_box t.boxes t.top _ (omega (arith, t.tall)) (c.copied.ensures ∙ c.last.ensures.value)
