@@ -4,13 +4,12 @@ ghost use Rattle.binder.specs.Joined.{paired, paired_proper, Beside};
 
 use crate::binders::Binder;
 use crate::clear::undo_all;
+use crate::marks::MARKS;
 use crate::refusal::Refusal;
 use boxes::OptionBox;
 
-// The most sheets and marks that a binder may have.
+// The most sheets that a binder may have.
 const SHEETS: usize = 1024;
-
-const MARKS: usize = 72;
 
 // The sheets of the first come first. Sheets from 1,024 on are no part of the join.
 //
