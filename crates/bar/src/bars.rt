@@ -36,7 +36,7 @@ pub struct Bar<'a> {
 impl<'a> Bar<'a> {
     // The bar sheets of a checked catalogue, with no mark.
     pub fn new(catalogue: &Catalogue<'a>) -> Bar<'a>
-        ensures { Fresh (sheets_in (content catalogue.now.bytes.now) BarMake) (barring result.sheets.views.items result.sheets.count result.marks) }
+        ensures { Fresh (sheets_in (content catalogue.now.bytes.now) BarMake) (barring result.sheets.views result.sheets.count result.marks) }
     {
         let sheets = sheets_of(catalogue, Make::Bar);
         Bar { sheets, marks: 0 }
@@ -44,9 +44,9 @@ impl<'a> Bar<'a> {
 }
 
 impl<'a> Binder for Bar<'a> {
-    ghost meaning = { λ x. barring x.sheets.views.items x.sheets.count x.marks };
+    ghost meaning = { λ x. barring x.sheets.views x.sheets.count x.marks };
 
-    ghost proper = { λ x. barring_proper x.sheets.make x.sheets.views.items x.sheets.count x.marks x.bars x.sheets.taken x.sheets.few x.sheets.long x.low };
+    ghost proper = { λ x. barring_proper x.sheets.make x.sheets.views x.sheets.count x.marks x.bars x.sheets.taken x.sheets.few x.sheets.long x.low };
 
     fn sheets(&self) -> usize {
         self.sheets.count
@@ -78,8 +78,8 @@ impl<'a> Binder for Bar<'a> {
     // Closes what the lists that are no rows do not hold. The binder itself stays as it is, so each sheet
     // goes on keeping every list that is not among its rows.
     fn show(&mut self, sheet: usize, slate: &mut OptionBox) -> Result<(), Refusal>
-        ensures shown { MatchResult result (λ _. (sheet < (barring self.old.sheets.views.items self.old.sheets.count self.old.marks).count) × Shown (barring self.old.sheets.views.items self.old.sheets.count self.old.marks) (barring self.new.sheets.views.items self.new.sheets.count self.new.marks) sheet slate.old.cells slate.new.cells)
-            (λ e. (e ≡ NotThere) × ((barring self.old.sheets.views.items self.old.sheets.count self.old.marks).count ≤ sheet) × (self.new ≡ self.old) × (slate.new ≡ slate.old)) }
+        ensures shown { MatchResult result (λ _. (sheet < (barring self.old.sheets.views self.old.sheets.count self.old.marks).count) × Shown (barring self.old.sheets.views self.old.sheets.count self.old.marks) (barring self.new.sheets.views self.new.sheets.count self.new.marks) sheet slate.old.cells slate.new.cells)
+            (λ e. (e ≡ NotThere) × ((barring self.old.sheets.views self.old.sheets.count self.old.marks).count ≤ sheet) × (self.new ≡ self.old) × (slate.new ≡ slate.old)) }
         ensures stays { self.new ≡ self.old }
     {
         if sheet >= self.sheets.count {

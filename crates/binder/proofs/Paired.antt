@@ -6,11 +6,6 @@ use Rattle.binder.specs.Meaning.{Binding, Proper, Shown, Noted, Undone, Cleared,
 use Rattle.binder.specs.Joined.{glue, joined, paired, glue_first, glue_second, Beside}
 use Rattle.binder.proofs.Glued.{joined_shown_first, joined_shown_second, glue_noted, glue_undone, joined_beside}
 
--- of a call's result, each case
-pub cases_map : {X E : Type 0} (r : Result X E) {P P' : X → Type 0} {Q Q' : E → Type 0} → ((x : X) → P x → P' x) → ((e : E) → Q e → Q' e) → MatchResult r P Q → MatchResult r P' Q'
-cases_map (Ok x) f g h = f x h
-cases_map (Err e) f g h = g e h
-
 -- of a result that is not refused
 pub given_ok : {X E : Type 0} (r : Result X E) {P : X → Type 0} {Q : E → Type 0} {G : Type 0} → MatchResult r P Q → ((e : E) → Q e → ⊥) → ((x : X) → P x → G) → G
 given_ok (Ok x) h not f = f x h
@@ -91,25 +86,31 @@ module _ (t : Bool) (a b : Binding) (e : (t && eqb a.marks b.marks) ≡ true) wh
   pub level_count : (paired t a b).count ≡ min (a.count + b.count) 1024
   level_count = ap (λ m. m.count) level_is ∙ joined_count a b
 
-  pub second_there : (s : ℕ) → a.count ≤ s → s < 1024 → s - a.count < b.count → s < (paired t a b).count
-  second_there s h few lt = omega (arith, level_count)
+  -- sheet `place` of the second is sheet s of both
+  module _ (place s : ℕ) (is : s ≡ a.count + place) where
+    at_place : s - a.count ≡ place
+    at_place = omega arith
 
-  pub second_past : (s : ℕ) → a.count ≤ s → b.count ≤ s - a.count → (paired t a b).count ≤ s
-  second_past s h ge = omega (arith, level_count)
+    pub second_there : s < 1024 → place < b.count → s < (paired t a b).count
+    second_there few lt = omega (arith, level_count)
 
-  pub second_answers : (s : ℕ) → a.count ≤ s → s < 1024 → Answers b (s - a.count) (paired t a b) s
-  second_answers s h few = record {
-    there = ⊎_elim
-        (λ lt. lt-ltb (s - a.count) b.count lt ∙ sym (lt-ltb s (paired t a b).count (second_there s h few lt)))
-        (λ ge. le-ltb (s - a.count) b.count ge ∙ sym (le-ltb s (paired t a b).count (second_past s h ge))) (cases_lt (s - a.count) b.count);
-    scope = sym (ap (λ m. m.scope s) level_is ∙ glue_second a.count a b s h);
-  }
+    pub second_past : b.count ≤ place → (paired t a b).count ≤ s
+    second_past ge = omega (arith, level_count)
+
+    pub second_answers : s < 1024 → Answers b place (paired t a b) s
+    second_answers few = record {
+      there = ⊎_elim
+          (λ lt. lt-ltb place b.count lt ∙ sym (lt-ltb s (paired t a b).count (second_there few lt)))
+          (λ ge. le-ltb place b.count ge ∙ sym (le-ltb s (paired t a b).count (second_past ge))) (cases_lt place b.count);
+      scope = sym (ap (λ m. m.scope s) level_is ∙ glue_second a.count a b s (omega arith) ∙ ap b.scope at_place);
+    }
 
   both_ways : (R : Binding → Binding → Type 0) (a' b' : Binding) → a'.marks ≡ b'.marks → R (joined a b) (joined a' b') → R (paired t a b) (paired t a' b')
   both_ways R a' b' f h = subst (λ (m : Binding). R m (paired t a' b')) (sym level_is) (subst (λ (n : Binding). R (joined a b) n) (sym (level_again a' b' f)) h)
 
-  pub paired_shown_second : (b' : Binding) (s : ℕ) (x y : List ℕ) → a.count ≤ s → Shown b b' (s - a.count) x y → Shown (paired t a b) (paired t a b') s x y
-  paired_shown_second b' s x y h shown = both_ways (λ m n. Shown m n s x y) a b' (level_marks ∙ sym shown.marks) (joined_shown_second a b b' s x y h shown)
+  pub paired_shown_second : (b' : Binding) (place s : ℕ) (x y : List ℕ) → s ≡ a.count + place → Shown b b' place x y → Shown (paired t a b) (paired t a b') s x y
+  paired_shown_second b' place s x y is shown = both_ways (λ m n. Shown m n s x y) a b' (level_marks ∙ sym shown.marks)
+      (joined_shown_second a b b' s x y (omega arith) (subst (λ (p : ℕ). Shown b b' p x y) (sym (at_place place s is)) shown))
 
   pub paired_noted : (a' b' : Binding) → Noted a a' → Noted b b' → Noted (paired t a b) (paired t a' b')
   paired_noted a' b' f g = both_ways Noted a' b' (f.marks ∙ ap (λ n. n + 1) level_marks ∙ sym g.marks)
@@ -120,6 +121,18 @@ module _ (t : Bool) (a b : Binding) (e : (t && eqb a.marks b.marks) ≡ true) wh
       let same : a'.marks ≡ b'.marks = omega (arith, f.marks, g.marks, level_marks) in
       both_ways Undone a' b' same
       (subst (λ (k : ℕ). Undone (joined a b) (glue k a' b')) (sym f.sheets.count) (glue_undone a.count a a' b b' same f g))
+
+-- A call on the first, and where they go together on the second too, after which they go together as before.
+module _ (R : Binding → Binding → Type 0) (t l : Bool) (a b a' b' : Binding) (e : l ≡ (t && eqb a.marks b.marks)) where
+  pub both_next : l ≡ true → R (paired t a b) (paired t a' b') → R (paired t a b) (paired l a' b')
+  both_next f h =
+      let set : t ≡ true = (and_parts t (eqb a.marks b.marks) (sym e ∙ f)).0 in
+      subst (λ (k : Bool). R (paired t a b) (paired k a' b')) (set ∙ sym f) h
+
+  pub first_next : l ≡ false → R a a' → R (paired t a b) (paired l a' b')
+  first_next f h =
+      subst (λ (m : Binding). R m (paired l a' b')) (sym (cond-false (t && eqb a.marks b.marks) (joined a b) a (sym e ∙ f)))
+      (subst (λ (k : Bool). R a (paired k a' b')) (sym f) h)
 
 -- two cleared binders go together
 pub paired_beside : (a a' b b' : Binding) → Cleared a a' → Cleared b b' → Beside a b (paired true a' b')

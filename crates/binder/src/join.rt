@@ -1,5 +1,6 @@
 // Two binders side by side as one.
-ghost use Rattle.std.specs.Prelude.{◌≡◌, ◌&&◌, ◌==◌};
+ghost use Rattle.std.specs.Prelude.{◌≡◌, ◌+◌, ◌<◌, ◌≤◌, true, ◌&&◌, ◌==◌, MatchResult};
+ghost use Rattle.binder.specs.declared.refusal.Refusal.TheVariants.{NotThere};
 ghost use Rattle.binder.specs.Joined.{paired, paired_proper, Beside};
 
 use crate::binders::Binder;
@@ -7,10 +8,8 @@ use crate::clear::undo_all;
 use crate::refusal::Refusal;
 use boxes::OptionBox;
 
-// The most sheets and marks that a binder may have.
+// The most sheets that a binder may have.
 const SHEETS: usize = 1024;
-
-const MARKS: usize = 72;
 
 // The sheets of the first come first. Sheets from 1,024 on are no part of the join.
 //
@@ -51,6 +50,18 @@ impl<A: Binder, B: Binder> Join<A, B> {
     {
         self.both && self.first.marks() == self.second.marks()
     }
+
+    // Which sheet of the second a sheet of the join is, where it is none of the first.
+    fn in_second(&self, sheet: usize) -> Result<usize, Refusal>
+        requires { (A.Binder.meaning self.now.first).count ≤ sheet }
+        ensures { MatchResult result (λ place. ((self.now.both && (A.Binder.meaning self.now.first).marks == (B.Binder.meaning self.now.second).marks) ≡ true) × (sheet < 1024) × (sheet ≡ (A.Binder.meaning self.now.first).count + place))
+            (λ e. (e ≡ NotThere) × ((paired self.now.both (A.Binder.meaning self.now.first) (B.Binder.meaning self.now.second)).count ≤ sheet)) }
+    {
+        if sheet >= SHEETS || !self.level() {
+            return Err(Refusal::NotThere);
+        }
+        Ok(sheet - self.first.sheets())
+    }
 }
 
 impl<A: Binder, B: Binder> Binder for Join<A, B> {
@@ -63,8 +74,7 @@ impl<A: Binder, B: Binder> Binder for Join<A, B> {
         if !self.level() {
             return n;
         }
-        let all = n + self.second.sheets();
-        if all < SHEETS { all } else { SHEETS }
+        SHEETS.min(n + self.second.sheets())
     }
 
     #[tactic(auto, using(crate::proofs::Paired::paired_marks))]
@@ -73,65 +83,47 @@ impl<A: Binder, B: Binder> Binder for Join<A, B> {
     }
 
     fn arity(&self, sheet: usize) -> Result<usize, Refusal> {
-        let n = self.first.sheets();
-        if sheet < n {
+        if sheet < self.first.sheets() {
             return self.first.arity(sheet);
         }
-        if sheet >= SHEETS || !self.level() {
-            return Err(Refusal::NotThere);
-        }
-        self.second.arity(sheet - n)
+        let place = self.in_second(sheet)?;
+        self.second.arity(place)
     }
 
     fn slot_at(&self, sheet: usize, position: usize) -> Result<usize, Refusal> {
-        let n = self.first.sheets();
-        if sheet < n {
+        if sheet < self.first.sheets() {
             return self.first.slot_at(sheet, position);
         }
-        if sheet >= SHEETS || !self.level() {
-            return Err(Refusal::NotThere);
-        }
-        self.second.slot_at(sheet - n, position)
+        let place = self.in_second(sheet)?;
+        self.second.slot_at(place, position)
     }
 
     fn show(&mut self, sheet: usize, slate: &mut OptionBox) -> Result<(), Refusal> {
-        let n = self.first.sheets();
-        if sheet < n {
+        if sheet < self.first.sheets() {
             return self.first.show(sheet, slate);
         }
-        if sheet >= SHEETS || !self.level() {
-            return Err(Refusal::NotThere);
-        }
-        self.second.show(sheet - n, slate)
+        let place = self.in_second(sheet)?;
+        self.second.show(place, slate)
     }
 
+    // Where the first alone counts before a call of these two, it alone counts after.
     fn mark(&mut self) -> Result<(), Refusal> {
-        if self.first.marks() >= MARKS {
-            return Err(Refusal::TooManyMarks);
-        }
-        if self.level() {
-            let _ = self.first.mark();
+        let level = self.level();
+        self.first.mark()?;
+        if level {
             let _ = self.second.mark();
-            return Ok(());
         }
-        // The first alone counts, and goes on to.
-        let _ = self.first.mark();
-        self.both = false;
+        self.both = level;
         Ok(())
     }
 
     fn undo(&mut self) -> Result<(), Refusal> {
-        if self.first.marks() == 0 {
-            return Err(Refusal::NoMark);
-        }
-        if self.level() {
-            let _ = self.first.undo();
+        let level = self.level();
+        self.first.undo()?;
+        if level {
             let _ = self.second.undo();
-            return Ok(());
         }
-        // The first alone counts, and goes on to.
-        let _ = self.first.undo();
-        self.both = false;
+        self.both = level;
         Ok(())
     }
 }

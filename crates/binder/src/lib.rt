@@ -4,4 +4,5 @@
 pub mod binders;
 pub mod clear;
 pub mod join;
+pub mod marks;
 pub mod refusal;

@@ -48,7 +48,7 @@ fitting views count starts order counts saved marks =
     }
 
 abbrev pub meaning_of : Fit → Binding
-meaning_of x = fitting x.sheets.views.items x.sheets.count x.starts x.order x.counts x.saved x.marks
+meaning_of x = fitting x.sheets.views x.sheets.count x.starts x.order x.counts x.saved x.marks
 
 -- after a showing of b, sheet s keeps exactly the lists that it kept before and that fit b
 pub record Exact (m n : Binding) (s : ℕ) (b : List ℕ) : Type 0 where
@@ -152,5 +152,5 @@ module _ (views : List View) (count : ℕ) (starts order counts : List ℕ) (sav
 
 pub proper_of : (x : Fit) → Proper (meaning_of x)
 proper_of x =
-    fitting_proper x.sheets.views.items x.sheets.count x.starts x.order x.counts x.saved x.marks
-    (laid_out x.sheets.views.items x.sheets.count x.starts x.order x.counts x.saved x.marks x.laid)
+    fitting_proper x.sheets.views x.sheets.count x.starts x.order x.counts x.saved x.marks
+    (laid_out x.sheets.views x.sheets.count x.starts x.order x.counts x.saved x.marks x.laid)

@@ -15,7 +15,7 @@ use sheets::taking::sheets_of;
 // How many rows a sheet has.
 fn row_count(sheets: &Sheets, sheet: usize) -> usize
     requires { sheet < sheets.now.count }
-    ensures { result ≡ row_count sheets.now.views.items sheet }
+    ensures { result ≡ row_count sheets.now.views sheet }
 {
     let view = sheets.view(sheet);
     view.entries.len() / ROW
@@ -23,8 +23,8 @@ fn row_count(sheets: &Sheets, sheet: usize) -> usize
 
 // How many rows each sheet has.
 fn row_counts(sheets: &Sheets) -> [u16; 64]
-    requires { rows_before sheets.now.views.items sheets.now.count ≤ 4096 }
-    ensures { Each (row_count sheets.now.views.items) result sheets.now.count }
+    requires { rows_before sheets.now.views sheets.now.count ≤ 4096 }
+    ensures { Each (row_count sheets.now.views) result sheets.now.count }
 {
     let mut counts = [0; 64];
     for sheet in 0..sheets.count {
@@ -35,8 +35,8 @@ fn row_counts(sheets: &Sheets) -> [u16; 64]
 
 // Where the run of each sheet begins: behind the runs of the sheets before it.
 fn run_starts(sheets: &Sheets) -> [u16; 64]
-    requires { rows_before sheets.now.views.items sheets.now.count ≤ 4096 }
-    ensures { Each (rows_before sheets.now.views.items) result sheets.now.count }
+    requires { rows_before sheets.now.views sheets.now.count ≤ 4096 }
+    ensures { Each (rows_before sheets.now.views) result sheets.now.count }
 {
     let mut starts = [0; 64];
     let mut start = 0;

@@ -31,5 +31,5 @@ pub struct Fit<'a> {
     counts: [u16; 64],
     saved: [[u16; 64]; 72],
     marks: usize,
-    ghost laid: { ∥ Laid sheets.views.items sheets.count starts order counts saved marks ∥₁ },
+    ghost laid: { ∥ Laid sheets.views sheets.count starts order counts saved marks ∥₁ },
 }

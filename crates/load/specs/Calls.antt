@@ -10,14 +10,14 @@ use Rattle.load.specs.Sound.{loading_proper}
 
 -- what is shown of a sheet, and its table
 abbrev pub shown_of : Load → ℕ → Shown
-shown_of x s = shown_at x.sheets.views.items s
+shown_of x s = shown_at x.sheets.views s
 
 abbrev pub table_of : Load → ℕ → List ℤ
 table_of x s = slice_index_or x.weights s []
 
 abbrev pub meaning_of : Load → Binding
-meaning_of x = loading x.sheets.views.items x.sheets.count x.weights x.marks
+meaning_of x = loading x.sheets.views x.sheets.count x.weights x.marks
 
 pub proper_of : (x : Load) → Proper (meaning_of x)
 proper_of x =
-    loading_proper x.sheets.views.items x.sheets.count x.weights x.marks x.sheets.make x.sheets.taken (omega (arith, x.sheets.long, x.few)) x.few x.low
+    loading_proper x.sheets.views x.sheets.count x.weights x.marks x.sheets.make x.sheets.taken (omega (arith, x.sheets.long, x.few)) x.few x.low

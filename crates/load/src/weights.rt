@@ -34,7 +34,7 @@ fn table_of(entries: &[u8]) -> [i16; 256]
 // The tables of all sheets.
 pub(crate) fn tables_of(sheets: &Sheets) -> [[i16; 256]; 8]
     requires { is_make LoadMake sheets.now.make ≡ true }
-    ensures { (s : ℕ) → s < sheets.now.count → TellsAll (shown_at sheets.now.views.items s).entries (slice_index_or result s []) }
+    ensures { (s : ℕ) → s < sheets.now.count → TellsAll (shown_at sheets.now.views s).entries (slice_index_or result s []) }
 {
     let mut tables = [[0; 256]; 8];
     let mut s = 0;

@@ -3,3 +3,4 @@ pub mod Tabled
 pub mod Entries
 pub mod Chosen
 pub mod Scopes
+pub mod Reading

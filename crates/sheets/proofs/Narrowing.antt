@@ -1,5 +1,5 @@
 -- Closing position by position comes to a showing, where the masks are the supported options. Assumes nothing.
-use Rattle.std.proofs.Common.{◌≡◌, ℕ, ◌+◌, ◌<◌, List, length, get_or, sym, refl, ◌∙◌, subst, ⊎_elim, arith}
+use Rattle.std.proofs.Common.{◌≡◌, ℕ, ◌+◌, ◌<◌, List, length, get_or, sym, refl, ap, ◌∙◌, subst, ⊎_elim, arith}
 use Rattle.std.proofs.lemmas.Bool.{cases_eq, cases_lt}
 use Rattle.boxes.specs.Boxes.{Open, Within, Bit, Restricted}
 use Rattle.boxes.proofs.Bits.{open_same}
@@ -11,18 +11,25 @@ narrowed_none b scope masks =
     record { less = λ t o h. h; masked = λ p o l h. absurd (omega arith); more = λ t o h k. h; rest = λ t ne. refl }
 
 -- one position more
-pub narrowed_more : (b c d scope masks : List ℕ) (n : ℕ) → Narrowed b c scope masks n → Restricted c d (get_or scope n 0) (get_or masks n 0) → Narrowed b d scope masks (n + 1)
-narrowed_more b c d scope masks n h r =
+pub narrowed_more : (b c d scope masks : List ℕ) (n k slot mask : ℕ) → Narrowed b c scope masks n → Restricted c d slot mask → slot ≡ get_or scope n 0 → mask ≡ get_or masks n 0 → k ≡ n + 1 → Narrowed b d scope masks k
+narrowed_more b c d scope masks n k slot mask h r at is next =
     record {
-      less = λ t o k. h.less t o (r.less t o k);
-      masked = λ p o l k. ⊎_elim (λ lt. h.masked p o lt (r.less (get_or scope p 0) o k)) (λ ge. let e : p ≡ n = omega arith in subst (λ q. Bit (get_or masks q 0) o) (sym e) (r.masked o (subst (λ q. Open d (get_or scope q 0) o) e k))) (cases_lt p n);
-      more = λ t o k f.
-          let old = h.more t o k (λ p l e. f p (omega arith) e) in
+      less = λ t o f. h.less t o (r.less t o f);
+      masked = λ p o l f. ⊎_elim
+          (λ lt. h.masked p o lt (r.less (get_or scope p 0) o f))
+          (λ ge.
+          let e : p ≡ n = omega arith in
+          let here : get_or scope p 0 ≡ slot = ap (λ q. get_or scope q 0) e ∙ sym at in
+          let there : mask ≡ get_or masks p 0 = is ∙ ap (λ q. get_or masks q 0) (sym e) in
+          subst (λ v. Bit v o) there (r.masked o (subst (λ v. Open d v o) here f)))
+          (cases_lt p n);
+      more = λ t o f g.
+          let old = h.more t o f (λ p l e. g p (omega arith) e) in
           ⊎_elim
-          (λ e. subst (λ v. Open d v o) (sym e) (r.more o (subst (λ v. Open c v o) e old) (f n (omega arith) (sym e))))
+          (λ e. subst (λ v. Open d v o) (sym e) (r.more o (subst (λ v. Open c v o) e old) (subst (λ v. Bit v o) (sym is) (g n (omega arith) (sym (e ∙ at))))))
           (λ ne. open_same c d t o (r.rest t ne) old)
-          (cases_eq t (get_or scope n 0));
-      rest = λ t f. r.rest t (λ e. f n (omega arith) (sym e)) ∙ h.rest t (λ p l e. f p (omega arith) e);
+          (cases_eq t slot);
+      rest = λ t f. r.rest t (λ e. f n (omega arith) (sym (e ∙ at))) ∙ h.rest t (λ p l e. f p (omega arith) e);
     }
 
 -- what a showing does to the box

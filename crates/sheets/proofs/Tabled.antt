@@ -18,11 +18,16 @@ pub record At (options : List ℕ) (m : Make) (ts : List Sheet) (views : List Vi
   pub scope : scope_at ts s ≡ sheet.scope
   pub admits : (l : List ℕ) → admits_at ts s l ≡ admits sheet l
 
--- the view at a place shows what is shown there, if the default shows nothing
-pub shown_at_lem : (views : List View) (d : View) → shown_by d ≡ shown_at [] 0 → (s : ℕ) → shown_by (get_or views s d) ≡ shown_at views s
-shown_at_lem [] d e s = e
-shown_at_lem (v ∷ vs) d e zero = refl
-shown_at_lem (v ∷ vs) d e (suc s) = shown_at_lem vs d e s
+-- what is shown at a place that has a view, and at one that has none
+pub shown_there : (views : List View) (s : ℕ) (v : View) → s < length views → v ≡ get_or views s v → shown_by v ≡ shown_at views s
+shown_there [] s v h e = absurd (omega arith)
+shown_there (w ∷ vs) zero v h e = ap shown_by e
+shown_there (w ∷ vs) (suc s) v h e = shown_there vs s v (omega arith) e
+
+pub shown_past : (views : List View) (s : ℕ) → length views ≤ s → shown_at [] 0 ≡ shown_at views s
+shown_past [] s h = refl
+shown_past (v ∷ vs) zero h = absurd (omega arith)
+shown_past (v ∷ vs) (suc s) h = shown_past vs s (omega arith)
 
 -- as many sheets as the views that show them
 long_as : (ts : List Sheet) (views : List View) (n : ℕ) → map showing ts ≡ shown_in views n → n ≤ length views → length ts ≡ n
@@ -62,9 +67,3 @@ none_at [] s h = record { scope = refl; admits = λ l. refl }
 none_at (t ∷ ts) zero h = absurd (omega arith)
 none_at (t ∷ ts) (suc s) h =
     let n = none_at ts s (omega arith) in record { scope = n.scope; admits = n.admits }
-
--- past the last view nothing is shown
-pub shown_past : (views : List View) (s : ℕ) → length views ≤ s → shown_at views s ≡ shown_at [] 0
-shown_past [] s h = refl
-shown_past (v ∷ vs) zero h = absurd (omega arith)
-shown_past (v ∷ vs) (suc s) h = shown_past vs s (omega arith)

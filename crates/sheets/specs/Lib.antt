@@ -1,3 +1,4 @@
 pub mod Tables
 pub mod Closing
 pub mod Rules
+pub mod Opened

@@ -1,11 +1,13 @@
 -- What a table of sheets holds, and how its rows are read. Assumes nothing.
-use Rattle.std.specs.Prelude.{◌≡◌, ℕ, zero, suc, ◌+◌, ◌*◌, ◌≤◌, List, [], ◌∷◌, map, length, take, drop, pos, Ok, Err, Result}
+use Rattle.std.specs.Prelude.{◌≡◌, ℕ, zero, suc, ◌+◌, ◌*◌, ◌≤◌, cond, List, [], ◌∷◌, map, length, take, drop, pos, Ok, Err, Result, nat_lt, slice_index}
 use Rattle.std.specs.List.{AllByRecursion}
 use Rattle.catalogue.specs.declared.fault.Fault.{Fault}
 use Rattle.catalogue.specs.declared.make.Make.{Make}
 use Rattle.catalogue.specs.declared.view.View.{View}
 use Rattle.catalogue.specs.Content.{Sheet, Content, GoodSheet, rows_in, loads_in}
 use Rattle.catalogue.specs.Views.{of_make, Shown, showing, shown_by}
+use Rattle.binder.specs.declared.refusal.Refusal.{Refusal}
+use Rattle.binder.specs.declared.refusal.Refusal.TheVariants.{NotThere}
 
 -- what the first views show
 abbrev pub shown_in : List View → ℕ → List Shown
@@ -16,6 +18,18 @@ abbrev pub shown_at : List View → ℕ → Shown
 shown_at [] s = record { scope = []; «cap» = pos 0; entries = [] }
 shown_at (v ∷ vs) zero = shown_by v
 shown_at (v ∷ vs) (suc s) = shown_at vs s
+
+-- The first n views are sheets: the scope of sheet s, how many slots that names, and the slot at one of its positions;
+-- past the last sheet there is no scope.
+abbrev pub scope_in : List View → ℕ → ℕ → List ℕ
+scope_in views n s = cond (nat_lt s n) (shown_at views s).scope []
+
+abbrev pub arity_in : List View → ℕ → ℕ → Result ℕ Refusal
+arity_in views n s = cond (nat_lt s n) (Ok (length (scope_in views n s))) (Err NotThere)
+
+abbrev pub slot_in : List View → ℕ → ℕ → ℕ → Result ℕ Refusal
+slot_in views n s p =
+    cond (nat_lt s n) (cond (nat_lt p (length (scope_in views n s))) (Ok (slice_index (scope_in views n s) p)) (Err NotThere)) (Err NotThere)
 
 -- the views show sheets of one make that some sound catalogue has
 pub record Taken (m : Make) (views : List View) (n : ℕ) : Type 0 where
@@ -37,3 +51,7 @@ sheets_in (Err f) m = []
 -- row r of some entries, by its options: rows are nine bytes long, the first is the kind
 abbrev pub row_at : List ℕ → ℕ → ℕ → List ℕ
 row_at entries k r = take k (drop (9 * r + 1) entries)
+
+-- the option of row r at position p
+abbrev pub option_at : List ℕ → ℕ → ℕ → ℕ
+option_at entries r p = slice_index entries (9 * r + 1 + p)

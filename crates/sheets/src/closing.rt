@@ -8,9 +8,7 @@ use boxes::OptionBox;
 pub fn keep_only(slate: &mut OptionBox, scope: &[u8], masks: &[u32])
     ensures { Narrowed slate.old.cells slate.new.cells scope.now masks.now (shorter scope.now masks.now) }
 {
-    let mut position = 0;
-    'positions: while position < scope.len() && position < masks.len() {
-        slate.restrict(scope[position] as usize, masks[position]);
-        position += 1;
+    'positions: for (slot, mask) in scope.iter().zip(masks) {
+        slate.restrict(*slot as usize, *mask);
     }
 }

@@ -2,5 +2,7 @@
 #![tactic(auto)]
 
 pub mod closing;
+pub mod scope;
+pub mod sheet;
 pub mod table;
 pub mod taking;

@@ -1,19 +1,25 @@
 // The sheets of one make, as a checked catalogue shows them: what every make of binder stands on.
-ghost use Rattle.std.specs.Prelude.{◌≡◌, ◌≤◌, length};
+ghost use Rattle.std.specs.Prelude.{◌≡◌, ◌<◌, ◌≤◌, [], length, MatchResult};
+ghost use Rattle.binder.specs.declared.refusal.Refusal.TheVariants.{NotThere};
 ghost use Rattle.catalogue.specs.Views.{shown_by};
-ghost use Rattle.sheets.specs.Tables.{Taken, shown_at};
+ghost use Rattle.sheets.specs.Tables.{Taken, shown_at, arity_in, slot_in};
+ghost use Rattle.sheets.specs.Opened.{shown_of};
 
+use crate::scope::Scope;
+use crate::sheet::Sheet;
+use binder::refusal::Refusal;
 use catalogue::make::Make;
 use catalogue::view::View;
 
-// How many sheets there can be.
-const SHEETS: usize = 64;
-
-// As many values of one type as there can be sheets. The array has a struct of its own over a type
-// parameter, since an array of views can be put into no other.
-#[derive(Clone, Copy)]
-pub struct Block<T> {
-    pub items: [T; 64],
+// What shows nothing.
+pub(crate) fn no_view<'a>() -> View<'a>
+    ensures { shown_by result ≡ shown_at [] 0 }
+{
+    View {
+        scope: &[],
+        cap: 0,
+        entries: &[],
+    }
 }
 
 // The first `count` views are the sheets, in the file's order. They are sound: some sound catalogue has
@@ -21,26 +27,56 @@ pub struct Block<T> {
 #[derive(Clone, Copy)]
 pub struct Sheets<'a> {
     pub make: Make,
-    pub views: Block<View<'a>>,
+    pub views: [View<'a>; 64],
     pub count: usize,
     ghost few: { count ≤ 64 },
-    ghost long: { length views.items ≡ 64 },
-    ghost taken: { ∥ Taken make views.items count ∥₁ },
+    ghost long: { length views ≡ 64 },
+    ghost taken: { ∥ Taken make views count ∥₁ },
 }
 
 impl<'a> Sheets<'a> {
     // Sheet s, counted from 0; what lies past the last of the table shows nothing.
     pub fn view(&self, s: usize) -> View<'a>
-        ensures { shown_by result ≡ shown_at self.now.views.items s }
+        ensures { shown_by result ≡ shown_at self.now.views s }
     {
-        if s >= SHEETS {
-            return View {
-                scope: &[],
-                cap: 0,
-                entries: &[],
-            };
+        match self.views.get(s) {
+            Some(view) => *view,
+            None => no_view(),
         }
-        let views = &self.views.items;
-        views[s]
+    }
+
+    // Sheet s, counted from 0, if there is one.
+    pub fn sheet(&self, s: usize) -> Result<Sheet<'a>, Refusal>
+        ensures { MatchResult result (λ sheet. (s < self.now.count) × (shown_of sheet ≡ shown_at self.now.views s))
+            (λ e. (e ≡ NotThere) × (self.now.count ≤ s)) }
+    {
+        if s >= self.count {
+            return Err(Refusal::NotThere);
+        }
+        let view = self.view(s);
+        Ok(Sheet {
+            scope: Scope { slots: view.scope },
+            cap: view.cap,
+            entries: view.entries,
+        })
+    }
+
+    // How many slots a sheet names.
+    pub fn arity(&self, s: usize) -> Result<usize, Refusal>
+        ensures { result ≡ arity_in self.now.views self.now.count s }
+    {
+        let sheet = self.sheet(s)?;
+        Ok(sheet.scope.slots.len())
+    }
+
+    // The slot at a position of a sheet's scope.
+    pub fn slot_at(&self, s: usize, position: usize) -> Result<usize, Refusal>
+        ensures { result ≡ slot_in self.now.views self.now.count s position }
+    {
+        let sheet = self.sheet(s)?;
+        match sheet.scope.slots.get(position) {
+            Some(slot) => Ok(*slot as usize),
+            None => Err(Refusal::NotThere),
+        }
     }
 }

@@ -8,10 +8,10 @@ use Rattle.load.proofs.Load.new.Goals as goal
 pub invariant_of-result : goal.invariant_of-result
 invariant_of-result c =
     let x = c.sheets_of-sheets.result in
-    record { few = few_loads x.make x.views.items x.count (ap (is_make Load) c.sheets_of-sheets.ensures.make) x.taken (omega (arith, x.few, x.long)); low = omega arith }
+    record { few = few_loads x.make x.views x.count (ap (is_make Load) c.sheets_of-sheets.ensures.make) x.taken (omega (arith, x.few, x.long)); low = omega arith }
 
 pub returns : goal.returns
 returns c =
     let k = c.args.catalogue.now in
     let x = c.sheets_of-sheets.result in
-    fresh k.bytes.now k.counts k.accepted k.octets x.views.items x.count c.tables_of-weights.result c.sheets_of-sheets.ensures.is (omega (arith, x.few, x.long)) c.tables_of-weights.ensures
+    fresh k.bytes.now k.counts k.accepted k.octets x.views x.count c.tables_of-weights.result c.sheets_of-sheets.ensures.is (omega (arith, x.few, x.long)) c.tables_of-weights.ensures

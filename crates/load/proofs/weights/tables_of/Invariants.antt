@@ -4,7 +4,7 @@ use Rattle.load.specs.Given.{TellsAll}
 use Rattle.load.proofs.weights.tables_of.Given as goal
 
 abbrev pub invariant-sheets : goal.invariant-sheets
-invariant-sheets l = (length l.tables ≡ 8) × ((s : ℕ) → s < l.s → TellsAll (shown_at l.sheets.views.items s).entries (get_or l.tables s []))
+invariant-sheets l = (length l.tables ≡ 8) × ((s : ℕ) → s < l.s → TellsAll (shown_at l.sheets.views s).entries (get_or l.tables s []))
 
 abbrev pub decreases-sheets : goal.decreases-sheets
 decreases-sheets l = l.sheets.count - l.s

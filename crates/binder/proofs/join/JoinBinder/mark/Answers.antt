@@ -1,25 +1,35 @@
-use Rattle.std.proofs.Common.{◌≡◌, ◌<◌, true, ◌&&◌, eqb, sym, refl, ◌∙◌, arith}
+use Rattle.std.proofs.Common.{◌≡◌, true, ◌&&◌, eqb, sym, ap, ◌∙◌, arith}
+use Rattle.std.proofs.lemmas.Result.{err_from_is_err_and}
 use Rattle.binder.specs.Meaning.{Binding, Noted}
-use Rattle.binder.proofs.Paired.{given_ok, level_marks, paired_marks, paired_noted}
+use Rattle.binder.proofs.Paired.{given_ok, level_marks, paired_marks, paired_noted, both_next, first_next}
 use Rattle.binder.proofs.join.JoinBinder.mark.Goals as goal
+use Rattle.binder.proofs.join.JoinBinder.mark.Goals.{then-level, else-level}
 
-pub returns-then-marks-ge-MARKS : goal.returns-then-marks-ge-MARKS
-returns-then-marks-ge-MARKS g c =
+pub returns-in_err-mark : goal.returns-in_err-mark
+returns-in_err-mark g c =
     let s = c.args.self.now in
     let a : Binding = g.A.Binder.meaning s.first in
     let b : Binding = g.B.Binder.meaning s.second in
     let few = paired_marks (s.both && eqb a.marks b.marks) a b in
-    (refl, omega (arith, few, c.marks.ensures, c.if-marks-ge-MARKS.true), refl)
+    let k = c.in_err-mark.ensures in
+    let p = err_from_is_err_and c.from_residual.result c.from_residual.ensures.1 in
+    rw (p.1, p.2) (k.0, omega (arith, few, k.1), ap (λ z. record { first = z; second = s.second; both = s.both }) k.2)
 
-pub returns-then-level : goal.returns-then-level
-returns-then-level g c =
+pub returns : goal.returns
+returns g c =
     let s = c.args.self.now in
     let a : Binding = g.A.Binder.meaning s.first in
     let b : Binding = g.B.Binder.meaning s.second in
+    let l = c.level-level.ensures in
     let few = paired_marks (s.both && eqb a.marks b.marks) a b in
-    let e : (s.both && eqb a.marks b.marks) ≡ true = sym c.level.ensures ∙ c.if-level.true in
-    let low : a.marks < 72 = omega (arith, c.marks.ensures, c.if-marks-ge-MARKS.false) in
-    let same : a.marks ≡ b.marks = level_marks s.both a b e in
-    let one : Noted a (g.A.Binder.meaning c.mark.new.self) = given_ok c.mark.result c.mark.ensures (λ _ k. omega (arith, k.1)) (λ _ k. k.1) in
-    let two : Noted b (g.B.Binder.meaning c.mark-then-level.new.self) = given_ok c.mark-then-level.result c.mark-then-level.ensures (λ _ k. omega (arith, k.1)) (λ _ k. k.1) in
-    (omega (arith, few), paired_noted s.both a b e _ _ one two)
+    let k = c.in_ok-mark.ensures in (
+      omega (arith, few, k.0),
+      elim c.if-level.branch [
+        | then-level w ↦
+            let e : (s.both && eqb a.marks b.marks) ≡ true = sym l ∙ w.if-level.true in
+            let same : a.marks ≡ b.marks = level_marks s.both a b e in
+            let two : Noted b (g.B.Binder.meaning w.mark-then-level.new.self) = given_ok w.mark-then-level.result w.mark-then-level.ensures (λ _ h. omega (arith, h.1, k.0)) (λ _ h. h.1) in
+            rw w.self-is (both_next Noted s.both c.level-level.result a b _ _ l w.if-level.true (paired_noted s.both a b e _ _ k.1 two))
+        | else-level w ↦ rw w.self-is (first_next Noted s.both c.level-level.result a b _ _ l w.if-level.false k.1)
+      ],
+    )

@@ -6,6 +6,6 @@ use Rattle.fit.proofs.calls.FitBinder.arity.Goals as goal
 pub returns : goal.returns
 returns c =
     let s = c.args.self.now in
-    let h = scope_here s.sheets.views.items s.sheets.count c.args.sheet c.if-sheet-self.false in
+    let h = scope_here s.sheets.views s.sheets.count c.args.sheet c.if-sheet-self.false in
     ap (λ l. Ok (length l)) (ap (λ v. v.scope) c.view-view.ensures ∙ sym h)
     ∙ sym (cond-true _ _ _ (lt-ltb _ _ c.if-sheet-self.false))

@@ -1,0 +1,48 @@
+// The marks of a binder that only counts them.
+ghost use Rattle.std.specs.Prelude.{◌≡◌, ◌+◌, ◌<◌, ◌≤◌, MatchResult};
+ghost use Rattle.binder.specs.declared.refusal.Refusal.TheVariants.{TooManyMarks, NoMark};
+
+use crate::refusal::Refusal;
+
+// The most marks that may stand.
+pub const MARKS: usize = 72;
+
+// How many marks stand.
+#[derive(Clone, Copy)]
+pub struct Marks {
+    pub count: usize,
+    ghost few: { count ≤ 72 },
+}
+
+impl Marks {
+    // No mark stands.
+    pub fn none() -> Self
+        ensures { result.count ≡ 0 }
+    {
+        Marks { count: 0 }
+    }
+
+    // One mark more, unless as many stand as may.
+    pub fn add(&mut self) -> Result<(), Refusal>
+        ensures { MatchResult result (λ _. (self.old.count < 72) × (self.new.count ≡ self.old.count + 1))
+            (λ e. (e ≡ TooManyMarks) × (72 ≤ self.old.count) × (self.new ≡ self.old)) }
+    {
+        if self.count >= MARKS {
+            return Err(Refusal::TooManyMarks);
+        }
+        self.count += 1;
+        Ok(())
+    }
+
+    // One mark fewer, if any stands.
+    pub fn drop_newest(&mut self) -> Result<(), Refusal>
+        ensures { MatchResult result (λ _. self.old.count ≡ self.new.count + 1)
+            (λ e. (e ≡ NoMark) × (self.old.count ≡ 0) × (self.new ≡ self.old)) }
+    {
+        if self.count == 0 {
+            return Err(Refusal::NoMark);
+        }
+        self.count -= 1;
+        Ok(())
+    }
+}
