@@ -1,12 +1,13 @@
 -- The steps of the counting loops. Assumes nothing.
-use Rattle.std.proofs.Common.{◌≡◌, ℕ, ◌+◌, ◌*◌, ◌%◌, ◌^◌, ◌<◌, ◌≤◌, List, [], ◌++◌, length, get_or, drop, set, replicate, sym, ap, refl, ◌∙◌, subst, ⊎_elim, arith, length-set, length-drop, get_or-drop, get_or-set_other, get_or-set_same, below_more, w32}
+use Rattle.std.proofs.Common.{◌≡◌, ℕ, ◌+◌, ◌*◌, ◌%◌, ◌^◌, ◌<◌, ◌≤◌, List, [], ◌++◌, length, get_or, take, drop, set, replicate, sym, ap, refl, ◌∙◌, subst, ⊎_elim, arith, length-set, length-drop, get_or-set_other, get_or-set_same, below_more, w32}
 use lib.Bits.{bit_or}
 use Rattle.std.proofs.lemmas.Nat.Bits.{bit_at-zero, bit_at_set_same, bit_at_set_other}
-use Rattle.std.proofs.lemmas.List.{get_or-replicate, get_or_append_left, drop_at, drop-drop, length-append}
+use Rattle.std.proofs.lemmas.List.{get_or-replicate, drop_at, drop-drop, drop-append-le, take-append-le, length-append}
 use Rattle.std.proofs.lemmas.Bool.{cases_eq, cases_lt}
-use Rattle.boxes.specs.Boxes.{Open, Bit}
+use Rattle.boxes.specs.Boxes.{Open, Fits, Bit}
+use Rattle.sheets.specs.Tables.{row_at}
 use Rattle.bar.specs.Counted.{Counts, product}
-use Rattle.bar.specs.Tally.{option_at, Suits, Bears, Tallied, Fewer, Room, Marks}
+use Rattle.bar.specs.Tally.{Bears, Tallied, Fewer, Room, Marks}
 use Rattle.bar.proofs.Counting.{counts_none, counts_yes, counts_no, counts_same}
 
 -- row r is nine bytes of the entries, and the next row is behind it
@@ -19,21 +20,9 @@ module _ (entries rest row next : List ℕ) (r : ℕ) (here : rest ≡ drop (9 *
       let e : 9 * r + 9 ≡ 9 * (r + 1) = omega arith in
       sym (drop_at row next 9 nine) ∙ ap (drop 9) (sym cut ∙ here) ∙ drop-drop 9 (9 * r) entries ∙ ap (λ n. drop n entries) e
 
-  row_option : (p : ℕ) → p < 8 → get_or row (1 + p) 0 ≡ option_at entries r p
-  row_option p h =
-      let e : 9 * r + (1 + p) ≡ 9 * r + 1 + p = omega arith in
-      sym (get_or_append_left row next 0 (1 + p) (omega arith)) ∙ ap (λ l. get_or l (1 + p) 0) (sym cut ∙ here) ∙ get_or-drop (9 * r) entries (1 + p) 0 ∙ ap (λ n. get_or entries n 0) e
-
-  -- the option of the row alone
-  same_option : (p : ℕ) → p < 8 → option_at row 0 p ≡ option_at entries r p
-  same_option p h = let e : 9 * 0 + 1 + p ≡ 1 + p = omega arith in ap (λ n. get_or row n 0) e ∙ row_option p h
-
-  module _ (b scope : List ℕ) (short : length scope ≤ 8) where
-    suits_there : Suits b scope row 0 (length scope) → Suits b scope entries r (length scope)
-    suits_there s = record { each = λ p h. subst (λ (o : ℕ). Open b (get_or scope p 0) o) (same_option p (omega arith)) (s.each p h) }
-
-    suits_here : Suits b scope entries r (length scope) → Suits b scope row 0 (length scope)
-    suits_here s = record { each = λ p h. subst (λ (o : ℕ). Open b (get_or scope p 0) o) (sym (same_option p (omega arith))) (s.each p h) }
+  row_options : (k : ℕ) → k ≤ 8 → take k (drop 1 row) ≡ row_at entries k r
+  row_options k h =
+      sym (take-append-le k (drop 1 row) next (omega (arith, length-drop 1 row))) ∙ ap (take k) (sym (drop-append-le 1 row next (omega arith)) ∙ ap (drop 1) (sym cut ∙ here) ∙ drop-drop 1 (9 * r) entries)
 
 -- of the first r rows, how many have each option at each position
 pub record Counting (b scope entries : List ℕ) (r : ℕ) (rest : List ℕ) (counts : List (List ℕ)) : Type 0 where
@@ -50,31 +39,31 @@ module _ (b scope entries : List ℕ) (short : length scope ≤ 8) where
         (sym (ap (λ l. get_or l o 0) (get_or-replicate 8 p (replicate 32 0) [] (omega arith)) ∙ get_or-replicate 32 o 0 0 ho)) (counts_none (Bears b scope entries p o));
   }
 
-  module _ (rest row next : List ℕ) (r : ℕ) (cut : rest ≡ row ++ next) (nine : length row ≡ 9) where
-    pub counting_no : (counts : List (List ℕ)) → (Suits b scope row 0 (length scope) → ⊥) → Counting b scope entries r rest counts → Counting b scope entries (r + 1) next counts
+  module _ (rest row next options : List ℕ) (r : ℕ) (cut : rest ≡ row ++ next) (nine : length row ≡ 9) (is : options ≡ take (length scope) (drop 1 row)) where
+    same_row : rest ≡ drop (9 * r) entries → options ≡ row_at entries (length scope) r
+    same_row here = is ∙ row_options entries rest row next r here cut nine (length scope) short
+
+    pub counting_no : (counts : List (List ℕ)) → (Fits b scope options → ⊥) → Counting b scope entries r rest counts → Counting b scope entries (r + 1) next counts
     counting_no counts bad was = record {
       here = row_next entries rest row next r was.here cut nine;
       whole = omega (arith, row_whole entries rest row next r was.here cut nine);
       each = λ p o hp ho. counts_no (Bears b scope entries p o) r (get_or (get_or counts p []) o 0) (was.each p o hp ho)
-          (λ k. bad (suits_here entries rest row next r was.here cut nine b scope short k.suits));
+          (λ k. bad (subst (Fits b scope) (sym (same_row was.here)) k.fits));
     }
 
-    pub counting_yes : (options : List ℕ) (xs ys : List (List ℕ)) → Suits b scope row 0 (length scope) → ((p : ℕ) → p < length scope → get_or options p 0 ≡ get_or row (1 + p) 0)
-        → Tallied options (length scope) xs ys → Counting b scope entries r rest xs → Counting b scope entries (r + 1) next ys
-    counting_yes options xs ys good same t was =
-        let is : (p : ℕ) → p < length scope → get_or options p 0 ≡ option_at entries r p = λ p h. same p h ∙ row_option entries rest row next r was.here cut nine p (omega arith) in
-        record {
-          here = row_next entries rest row next r was.here cut nine;
-          whole = omega (arith, row_whole entries rest row next r was.here cut nine);
-          each = λ p o hp ho. ⊎_elim
-              (λ f. subst (λ (c : ℕ). Counts (Bears b scope entries p o) (r + 1) c)
-              (sym (subst (λ (u : ℕ). get_or (get_or ys p []) u 0 ≡ get_or (get_or xs p []) u 0 + 1) (is p hp ∙ f) (t.hit p hp)))
-              (counts_yes (Bears b scope entries p o) r (get_or (get_or xs p []) o 0) (was.each p o hp ho)
-              (record { suits = suits_there entries rest row next r was.here cut nine b scope short good; has = f })))
-              (λ ne. subst (λ (c : ℕ). Counts (Bears b scope entries p o) (r + 1) c) (sym (t.miss p o (λ _ f. ne (sym (is p hp) ∙ f))))
-              (counts_no (Bears b scope entries p o) r (get_or (get_or xs p []) o 0) (was.each p o hp ho) (λ k. ne k.has)))
-              (cases_eq (option_at entries r p) o);
-        }
+    pub counting_yes : (xs ys : List (List ℕ)) → Fits b scope options → Tallied options (length options) xs ys → Counting b scope entries r rest xs → Counting b scope entries (r + 1) next ys
+    counting_yes xs ys good t was = record {
+      here = row_next entries rest row next r was.here cut nine;
+      whole = omega (arith, row_whole entries rest row next r was.here cut nine);
+      each = λ p o hp ho. ⊎_elim
+          (λ f. subst (λ (c : ℕ). Counts (Bears b scope entries p o) (r + 1) c)
+          (sym (subst (λ (u : ℕ). get_or (get_or ys p []) u 0 ≡ get_or (get_or xs p []) u 0 + 1) f (t.hit p (omega (arith, good.long)))))
+          (counts_yes (Bears b scope entries p o) r (get_or (get_or xs p []) o 0) (was.each p o hp ho)
+          (record { fits = subst (Fits b scope) (same_row was.here) good; has = ap (λ l. get_or l p 0) (sym (same_row was.here)) ∙ f })))
+          (λ ne. subst (λ (c : ℕ). Counts (Bears b scope entries p o) (r + 1) c) (sym (t.miss p o (λ _. ne)))
+          (counts_no (Bears b scope entries p o) r (get_or (get_or xs p []) o 0) (was.each p o hp ho) (λ k. ne (ap (λ l. get_or l p 0) (same_row was.here) ∙ k.has))))
+          (cases_eq (get_or options p 0) o);
+    }
 
 -- one position more is counted
 module _ (options : List ℕ) (n : ℕ) (xs ys : List (List ℕ)) (was : Tallied options n xs ys) (here : n < length ys) (low : get_or options n 0 < length (get_or ys n [])) where

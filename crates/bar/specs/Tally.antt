@@ -1,21 +1,13 @@
 -- What a showing of a bar sheet counts, and the options that it finds supported. Assumes nothing.
-use Rattle.std.specs.Prelude.{◌≡◌, ℕ, ◌+◌, ◌*◌, ◌<◌, List, [], length, ◌≢◌, slice_index, slice_index_or, slice_set}
+use Rattle.std.specs.Prelude.{◌≡◌, ℕ, ◌+◌, ◌<◌, List, [], length, ◌≢◌, slice_index, slice_index_or, slice_set}
 use Rattle.boxes.specs.Boxes.{Open, Fits, Bit}
 use Rattle.sheets.specs.Tables.{row_at}
 use Rattle.bar.specs.Counted.{product}
 
--- the option of row r at position p: rows are nine bytes long, the first is the kind
-abbrev pub option_at : List ℕ → ℕ → ℕ → ℕ
-option_at entries r p = slice_index entries (9 * r + 1 + p)
-
--- the first n options of row r are open at the slots of the scope
-pub record Suits (b scope entries : List ℕ) (r n : ℕ) : Type 0 where
-  pub each : (p : ℕ) → p < n → Open b (slice_index scope p) (option_at entries r p)
-
 -- row r fits the box, and has option o at position p
 pub record Bears (b scope entries : List ℕ) (p o r : ℕ) : Type 0 where
-  pub suits : Suits b scope entries r (length scope)
-  pub has : option_at entries r p ≡ o
+  pub fits : Fits b scope (row_at entries (length scope) r)
+  pub has : slice_index (row_at entries (length scope) r) p ≡ o
 
 -- a table of counts, after a row is counted once at each of its first n positions, under the option that it has there
 pub record Tallied (options : List ℕ) (n : ℕ) (xs ys : List (List ℕ)) : Type 0 where

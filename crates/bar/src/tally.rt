@@ -1,30 +1,15 @@
 // Finds by counting which options of a bar sheet's scope are supported: those that some list has which
 // fits the box and is not among the rows. Rows are all different, so such a list is left exactly where
 // fewer fitting rows have the option than there are fitting lists that do.
-ghost use Rattle.std.specs.Prelude.{◌≡◌, ℕ, ◌+◌, ◌*◌, ◌/◌, ◌<◌, ◌≤◌, length, Decides, slice_index, slice_index_or, slice_set, []};
+ghost use Rattle.std.specs.Prelude.{◌≡◌, ℕ, ◌/◌, ◌<◌, ◌≤◌, [], length, slice_index, slice_index_or, slice_set};
 ghost use Rattle.boxes.specs.Boxes.{Open};
 ghost use Rattle.bar.specs.Counted.{Counts, product};
-ghost use Rattle.bar.specs.Tally.{option_at, Suits, Bears, Tallied, Fewer, Room, Marks, RowsApart, Backs};
+ghost use Rattle.bar.specs.Tally.{Bears, Tallied, Fewer, Room, Marks, RowsApart, Backs};
 
 use boxes::OptionBox;
+use sheets::scope::Scope;
+use sheets::sheet::{ROW, Sheet};
 use std::array;
-
-// How many bytes a row takes, its byte of kind among them.
-const ROW: usize = 9;
-
-// Whether a row fits the box.
-fn row_fits(row: &[u8], scope: &[u8], slate: &OptionBox) -> bool
-    requires short { length scope.now ≤ 8 }
-    requires whole { length row.now ≡ 9 }
-    ensures { Decides result (Suits slate.now.cells scope.now row.now 0 (length scope.now)) }
-{
-    for position in 0..scope.len() {
-        if !slate.is_open(scope[position] as usize, row[1 + position]) {
-            return false;
-        }
-    }
-    true
-}
 
 // How many options are open at each position of a scope, and 1 at each position past its last.
 #[derive(Drop)]
@@ -35,14 +20,12 @@ struct Sizes {
 }
 
 impl Sizes {
-    fn of(scope: &[u8], slate: &OptionBox) -> Sizes
-        requires short { length scope.now ≤ 8 }
-        requires slots { (p : ℕ) → p < length scope.now → slice_index scope.now p < 48 }
-        ensures open { (p : ℕ) → p < length scope.now → Counts (Open slate.now.cells (slice_index scope.now p)) 32 (slice_index result.each p) }
-        ensures past { (p : ℕ) → length scope.now ≤ p → p < 8 → slice_index result.each p ≡ 1 }
+    fn of(scope: &Scope, slate: &OptionBox) -> Sizes
+        ensures open { (p : ℕ) → p < length scope.now.slots.now → Counts (Open slate.now.cells (slice_index scope.now.slots.now p)) 32 (slice_index result.each p) }
+        ensures past { (p : ℕ) → length scope.now.slots.now ≤ p → p < 8 → slice_index result.each p ≡ 1 }
     {
         let mut each = [1; 8];
-        for (position, slot) in scope.iter().enumerate() {
+        for (position, slot) in scope.slots.iter().enumerate() {
             each[position] = u64::from(slate.cells[*slot as usize].count_ones());
         }
         Sizes { each }
@@ -87,18 +70,19 @@ struct Tally {
 }
 
 impl Tally {
-    // Of the rows that fit the box, how many have each option at each position.
-    fn of(entries: &[u8], scope: &[u8], slate: &OptionBox) -> Tally
-        requires short { length scope.now ≤ 8 }
-        requires few { length entries.now / 9 ≤ 65536 }
-        ensures { (p o : ℕ) → p < length scope.now → o < 32 → Counts (Bears slate.now.cells scope.now entries.now p o) (length entries.now / 9) (slice_index (slice_index_or result.counts p []) o) }
+    // Of the rows of a sheet that fit the box, how many have each option at each position.
+    fn of(sheet: &Sheet, slate: &OptionBox) -> Tally
+        requires { length sheet.now.entries.now / 9 ≤ 65536 }
+        ensures { (p o : ℕ) → p < length sheet.now.scope.slots.now → o < 32
+            → Counts (Bears slate.now.cells sheet.now.scope.slots.now sheet.now.entries.now p o) (length sheet.now.entries.now / 9) (slice_index (slice_index_or result.counts p []) o) }
     {
         let mut tally = Tally {
             counts: [[0; 32]; 8],
         };
-        for row in entries.chunks_exact(ROW) {
-            if row_fits(row, scope, slate) {
-                tally.add(&row[1..=scope.len()]);
+        for row in sheet.entries.chunks_exact(ROW) {
+            let options = &row[1..=sheet.scope.slots.len()];
+            if sheet.scope.fits(slate, options) {
+                tally.add(options);
             }
         }
         tally
@@ -125,13 +109,11 @@ impl Tally {
 }
 
 // At each position, the supported options. A bit may be set for an option that is not open.
-pub(crate) fn supports(entries: &[u8], scope: &[u8], slate: &OptionBox) -> [u32; 8]
-    requires short { length scope.now ≤ 8 }
-    requires slots { (p : ℕ) → p < length scope.now → slice_index scope.now p < 48 }
-    requires few { length entries.now / 9 ≤ 65536 }
-    requires apart { RowsApart entries.now (length scope.now) (length entries.now / 9) }
-    ensures { Backs slate.now.cells scope.now entries.now (length entries.now / 9) result }
+pub(crate) fn supports(sheet: &Sheet, slate: &OptionBox) -> [u32; 8]
+    requires few { length sheet.now.entries.now / 9 ≤ 65536 }
+    requires apart { RowsApart sheet.now.entries.now (length sheet.now.scope.slots.now) (length sheet.now.entries.now / 9) }
+    ensures { Backs slate.now.cells sheet.now.scope.slots.now sheet.now.entries.now (length sheet.now.entries.now / 9) result }
 {
-    let sizes = Sizes::of(scope, slate);
-    Tally::of(entries, scope, slate).masks(&sizes)
+    let sizes = Sizes::of(&sheet.scope, slate);
+    Tally::of(sheet, slate).masks(&sizes)
 }

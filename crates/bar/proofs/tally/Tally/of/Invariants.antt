@@ -4,5 +4,5 @@ use Rattle.bar.proofs.Passes.{Counting}
 use Rattle.bar.proofs.tally.Tally.of.Given as goal
 
 abbrev pub invariant-loop-row : goal.invariant-loop-row
-invariant-loop-row l =
-    (chunks_exact_size l.row-iterator ≡ 9) × Counting l.slate.cells l.scope l.entries (length l.yielded) (chunks_exact_rest l.row-iterator) l.tally.counts
+invariant-loop-row l = (chunks_exact_size l.row-iterator ≡ 9)
+    × Counting l.slate.cells l.sheet.scope.slots.now l.sheet.entries.now (length l.yielded) (chunks_exact_rest l.row-iterator) l.tally.counts
