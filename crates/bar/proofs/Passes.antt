@@ -1,80 +1,125 @@
 -- The steps of the counting loops. Assumes nothing.
-use Rattle.std.proofs.Common.{◌≡◌, ℕ, ◌+◌, ◌*◌, ◌/◌, ◌%◌, ◌^◌, ◌<◌, ◌≤◌, List, length, get_or, set, replicate, sym, ap, ◌∙◌, subst, ⊎_elim, arith, get_or-set_other, get_or-set_same, below_more}
-use native.Mathlib.Nat.{zero-div}
+use Rattle.std.proofs.Common.{◌≡◌, ℕ, ◌+◌, ◌*◌, ◌%◌, ◌^◌, ◌<◌, ◌≤◌, List, [], ◌++◌, length, get_or, take, drop, set, replicate, sym, ap, refl, ◌∙◌, subst, ⊎_elim, arith, length-set, length-drop, get_or-set_other, get_or-set_same, below_more, w32}
 use lib.Bits.{bit_or}
-use lib.ListN.{get_or-replicate}
-use Rattle.std.proofs.lemmas.Nat.{or_shr, or_mod, one_shl}
-use Rattle.std.proofs.lemmas.Bool.{cases_eq}
-use Rattle.boxes.specs.Boxes.{Open, Bit}
-use Rattle.boxes.proofs.Bits.{bit, bit_here, bit_other}
+use Rattle.std.proofs.lemmas.Nat.Bits.{bit_at-zero, bit_at_set_same, bit_at_set_other}
+use Rattle.std.proofs.lemmas.List.{get_or-replicate, drop_at, drop-drop, drop-append-le, take-append-le, length-append}
+use Rattle.std.proofs.lemmas.Bool.{cases_eq, cases_lt}
+use Rattle.boxes.specs.Boxes.{Open, Fits, Bit}
+use Rattle.sheets.specs.Tables.{row_at}
 use Rattle.bar.specs.Counted.{Counts, product}
-use Rattle.bar.specs.Tally.{option_at, Suits, Bears, Tallied, Fewer, Room, Marks}
+use Rattle.bar.specs.Tally.{Bears, Tallied, Fewer, Room, Marks}
 use Rattle.bar.proofs.Counting.{counts_none, counts_yes, counts_no, counts_same}
 
--- the count of the rows
-module _ (b scope entries : List ℕ) where
-  abbrev pub Tally : ℕ → List ℕ → Type 0
-  Tally row xs = (p o : ℕ) → p < length scope → o < 32 → Counts (Bears b scope entries p o) row (get_or xs (p * 32 + o) 0)
+-- row r is nine bytes of the entries, and the next row is behind it
+module _ (entries rest row next : List ℕ) (r : ℕ) (here : rest ≡ drop (9 * r) entries) (cut : rest ≡ row ++ next) (nine : length row ≡ 9) where
+  row_whole : 9 * r + 9 ≤ length entries
+  row_whole = omega (arith, length-drop (9 * r) entries, ap length here, ap length cut, length-append row next)
 
-  pub tally_none : length scope ≤ 8 → Tally 0 (replicate 256 0)
-  tally_none short p o hp ho =
-      subst (λ (c : ℕ). Counts (Bears b scope entries p o) 0 c) (sym (get_or-replicate 256 (p * 32 + o) 0 0 (omega arith))) (counts_none (Bears b scope entries p o))
+  row_next : next ≡ drop (9 * (r + 1)) entries
+  row_next =
+      let e : 9 * r + 9 ≡ 9 * (r + 1) = omega arith in
+      sym (drop_at row next 9 nine) ∙ ap (drop 9) (sym cut ∙ here) ∙ drop-drop 9 (9 * r) entries ∙ ap (λ n. drop n entries) e
 
-  pub tally_no : (row : ℕ) (xs : List ℕ) → (Suits b scope entries row (length scope) → ⊥) → Tally row xs → Tally (row + 1) xs
-  tally_no row xs bad was p o hp ho = counts_no (Bears b scope entries p o) row (get_or xs (p * 32 + o) 0) (was p o hp ho) (λ k. bad k.suits)
+  row_options : (k : ℕ) → k ≤ 8 → take k (drop 1 row) ≡ row_at entries k r
+  row_options k h =
+      sym (take-append-le k (drop 1 row) next (omega (arith, length-drop 1 row))) ∙ ap (take k) (sym (drop-append-le 1 row next (omega arith)) ∙ ap (drop 1) (sym cut ∙ here) ∙ drop-drop 1 (9 * r) entries)
 
-  pub tally_yes : (row : ℕ) (xs ys : List ℕ) → Suits b scope entries row (length scope) → Tallied entries row (length scope) xs ys → Tally row xs → Tally (row + 1) ys
-  tally_yes row xs ys good t was p o hp ho =
-      ⊎_elim
-      (λ e. subst (λ (c : ℕ). Counts (Bears b scope entries p o) (row + 1) c)
-      (sym (subst (λ (u : ℕ). get_or ys (p * 32 + u) 0 ≡ get_or xs (p * 32 + u) 0 + 1) e (t.hit p hp)))
-      (counts_yes (Bears b scope entries p o) row (get_or xs (p * 32 + o) 0) (was p o hp ho) (record { suits = good; has = e })))
-      (λ ne. subst (λ (c : ℕ). Counts (Bears b scope entries p o) (row + 1) c) (sym (t.miss p o ho (λ _. ne)))
-      (counts_no (Bears b scope entries p o) row (get_or xs (p * 32 + o) 0) (was p o hp ho) (λ k. ne k.has)))
-      (cases_eq (option_at entries row p) o)
+-- of the first r rows, how many have each option at each position
+pub record Counting (b scope entries : List ℕ) (r : ℕ) (rest : List ℕ) (counts : List (List ℕ)) : Type 0 where
+  pub here : rest ≡ drop (9 * r) entries
+  pub whole : 9 * r ≤ length entries
+  pub each : (p o : ℕ) → p < length scope → o < 32 → Counts (Bears b scope entries p o) r (get_or (get_or counts p []) o 0)
+
+module _ (b scope entries : List ℕ) (short : length scope ≤ 8) where
+  pub counting_none : Counting b scope entries 0 entries (replicate 8 (replicate 32 0))
+  counting_none = record {
+    here = refl;
+    whole = omega arith;
+    each = λ p o hp ho. subst (λ (c : ℕ). Counts (Bears b scope entries p o) 0 c)
+        (sym (ap (λ l. get_or l o 0) (get_or-replicate 8 p (replicate 32 0) [] (omega arith)) ∙ get_or-replicate 32 o 0 0 ho)) (counts_none (Bears b scope entries p o));
+  }
+
+  module _ (rest row next options : List ℕ) (r : ℕ) (cut : rest ≡ row ++ next) (nine : length row ≡ 9) (is : options ≡ take (length scope) (drop 1 row)) where
+    same_row : rest ≡ drop (9 * r) entries → options ≡ row_at entries (length scope) r
+    same_row here = is ∙ row_options entries rest row next r here cut nine (length scope) short
+
+    pub counting_no : (counts : List (List ℕ)) → (Fits b scope options → ⊥) → Counting b scope entries r rest counts → Counting b scope entries (r + 1) next counts
+    counting_no counts bad was = record {
+      here = row_next entries rest row next r was.here cut nine;
+      whole = omega (arith, row_whole entries rest row next r was.here cut nine);
+      each = λ p o hp ho. counts_no (Bears b scope entries p o) r (get_or (get_or counts p []) o 0) (was.each p o hp ho)
+          (λ k. bad (subst (Fits b scope) (sym (same_row was.here)) k.fits));
+    }
+
+    pub counting_yes : (xs ys : List (List ℕ)) → Fits b scope options → Tallied options (length options) xs ys → Counting b scope entries r rest xs → Counting b scope entries (r + 1) next ys
+    counting_yes xs ys good t was = record {
+      here = row_next entries rest row next r was.here cut nine;
+      whole = omega (arith, row_whole entries rest row next r was.here cut nine);
+      each = λ p o hp ho. ⊎_elim
+          (λ f. subst (λ (c : ℕ). Counts (Bears b scope entries p o) (r + 1) c)
+          (sym (subst (λ (u : ℕ). get_or (get_or ys p []) u 0 ≡ get_or (get_or xs p []) u 0 + 1) f (t.hit p (omega (arith, good.long)))))
+          (counts_yes (Bears b scope entries p o) r (get_or (get_or xs p []) o 0) (was.each p o hp ho)
+          (record { fits = subst (Fits b scope) (same_row was.here) good; has = ap (λ l. get_or l p 0) (sym (same_row was.here)) ∙ f })))
+          (λ ne. subst (λ (c : ℕ). Counts (Bears b scope entries p o) (r + 1) c) (sym (t.miss p o (λ _. ne)))
+          (counts_no (Bears b scope entries p o) r (get_or (get_or xs p []) o 0) (was.each p o hp ho) (λ k. ne (ap (λ l. get_or l p 0) (same_row was.here) ∙ k.has))))
+          (cases_eq (get_or options p 0) o);
+    }
+
+-- one position more is counted
+module _ (options : List ℕ) (n : ℕ) (xs ys : List (List ℕ)) (was : Tallied options n xs ys) (here : n < length ys) (low : get_or options n 0 < length (get_or ys n [])) where
+  counted : List (List ℕ)
+  counted = set ys n (set (get_or ys n []) (get_or options n 0) (get_or (get_or ys n []) (get_or options n 0) 0 + 1))
+
+  pub tallied_more : Tallied options (n + 1) xs (set ys n (set (get_or ys n []) (get_or options n 0) (get_or (get_or ys n []) (get_or options n 0) 0 + 1)))
+  unfolding counted
+  tallied_more =
+      let row = get_or ys n [] in
+      let place = get_or options n 0 in
+      let grown = set row place (get_or row place 0 + 1) in
+      let same : get_or counted n [] ≡ grown = get_or-set_same ys n grown [] here in
+      let other : (p : ℕ) → (p ≡ n → ⊥) → get_or counted p [] ≡ get_or ys p [] = λ p ne. get_or-set_other ys n p grown [] ne in
+      record {
+        hit = below_more (λ p. get_or (get_or counted p []) (get_or options p 0) 0 ≡ get_or (get_or xs p []) (get_or options p 0) 0 + 1) n
+            (λ p h. ap (λ l. get_or l (get_or options p 0) 0) (other p (λ e. omega arith)) ∙ was.hit p h)
+            (ap (λ l. get_or l place 0) same ∙ get_or-set_same row place (get_or row place 0 + 1) 0 low ∙ ap (λ k. k + 1) (was.miss n place (λ h. absurd (omega arith))));
+        miss = λ p o f. ⊎_elim
+            (λ e. rw e (ap (λ l. get_or l o 0) same ∙ get_or-set_other row place o (get_or row place 0 + 1) 0 (λ g. f (omega arith) (ap (λ q. get_or options q 0) e ∙ sym g)) ∙ was.miss n o (λ h. absurd (omega arith))))
+            (λ ne. ap (λ l. get_or l o 0) (other p ne) ∙ was.miss p o (λ h. f (omega arith)))
+            (cases_eq p n);
+      }
 
 -- the open options of a slot are the bits of its cell
-open_count : (b : List ℕ) (s n : ℕ) → Counts (Bit (get_or b s 0)) 32 n → Counts (Open b s) 32 n
+pub open_count : (b : List ℕ) (s n : ℕ) → Counts (Bit (get_or b s 0)) 32 n → Counts (Open b s) 32 n
 unfolding Open Bit
 open_count b s n k = counts_same (Bit (get_or b s 0)) (Open b s) 32 n (λ o h q. (h, q)) (λ o h q. q.1) k
 
--- the sizes, slot by slot
-pub sizes_more : (b scope sizes : List ℕ) (position n : ℕ) → position < length sizes → Counts (Bit (get_or b (get_or scope position 0) 0)) 32 n
-    → ((p : ℕ) → p < position → Counts (Open b (get_or scope p 0)) 32 (get_or sizes p 0))
-    → (p : ℕ) → p < position + 1 → Counts (Open b (get_or scope p 0)) 32 (get_or (set sizes position n) p 0)
-sizes_more b scope sizes position n h here was =
-    below_more (λ p. Counts (Open b (get_or scope p 0)) 32 (get_or (set sizes position n) p 0)) position
-    (λ p q. subst (λ (m : ℕ). Counts (Open b (get_or scope p 0)) 32 m) (sym (get_or-set_other sizes position p n 0 (λ e. omega arith))) (was p q))
-    (subst (λ (m : ℕ). Counts (Open b (get_or scope position 0)) 32 m) (sym (get_or-set_same sizes position n 0 h)) (open_count b (get_or scope position 0) n here))
+-- the sizes of the first n positions, and 1 at the others
+pub record Measured (b scope : List ℕ) (n : ℕ) (sizes : List ℕ) : Type 0 where
+  pub long : length sizes ≡ 8
+  pub counts : (p : ℕ) → p < n → Counts (Open b (get_or scope p 0)) 32 (get_or sizes p 0)
+  pub past : (p : ℕ) → n ≤ p → p < 8 → get_or sizes p 0 ≡ 1
+
+pub measured_none : (b scope : List ℕ) → Measured b scope 0 (replicate 8 1)
+measured_none b scope = record { long = refl; counts = λ p h. absurd (omega arith); past = λ p h l. get_or-replicate 8 p 1 0 l }
+
+pub measured_more : (b scope sizes : List ℕ) (n many : ℕ) → n < 8 → Counts (Bit (get_or b (get_or scope n 0) 0)) 32 many → Measured b scope n sizes → Measured b scope (n + 1) (set sizes n many)
+measured_more b scope sizes n many h here was = record {
+  long = simp length-set was.long;
+  counts = below_more (λ p. Counts (Open b (get_or scope p 0)) 32 (get_or (set sizes n many) p 0)) n
+      (λ p q. subst (λ (m : ℕ). Counts (Open b (get_or scope p 0)) 32 m) (sym (get_or-set_other sizes n p many 0 (λ e. omega arith))) (was.counts p q))
+      (subst (λ (m : ℕ). Counts (Open b (get_or scope n 0)) 32 m) (sym (get_or-set_same sizes n many 0 (omega (arith, was.long)))) (open_count b (get_or scope n 0) many here));
+  past = λ p q l. get_or-set_other sizes n p many 0 (λ e. omega arith) ∙ was.past p (omega arith) l;
+}
+
+pub measured_low : (b scope sizes : List ℕ) (n : ℕ) → Measured b scope n sizes → (p : ℕ) → p < 8 → get_or sizes p 0 ≤ 32
+measured_low b scope sizes n m p h = ⊎_elim (λ l. (m.counts p l).few) (λ l. omega (arith, m.past p l h)) (cases_lt p n)
 
 -- the bits of a mask, one by one
-bit_or_lem : (a c k : ℕ) → bit (bit_or a c) k ≡ bit_or (bit a k) (bit c k)
-bit_or_lem a c k = ap (λ n. n % 2) (or_shr a c k) ∙ or_mod (a / 2 ^ k) (c / 2 ^ k) 1
-
-with_bit : ℕ → ℕ → ℕ
-with_bit m n = bit_or m ((1 * 2 ^ n) % 4294967296)
-
-or_one : (x : ℕ) → x < 2 → bit_or x 1 ≡ 1
-or_one x h = ⊎_elim (λ e. ap (λ y. bit_or y 1) e) (λ ne. let e : x ≡ 1 = omega arith in ap (λ y. bit_or y 1) e) (cases_eq x 0)
-
-or_none : (x : ℕ) → x < 2 → bit_or x 0 ≡ x
-or_none x h = ⊎_elim (λ e. ap (λ y. bit_or y 0) e ∙ sym e) (λ ne. let e : x ≡ 1 = omega arith in ap (λ y. bit_or y 0) e ∙ sym e) (cases_eq x 0)
-
-bit_set : (m n : ℕ) → n < 32 → bit (with_bit m n) n ≡ 1
-unfolding with_bit
-bit_set m n h =
-    ap (λ x. bit (bit_or m x) n) (one_shl n 32 h) ∙ bit_or_lem m (2 ^ n) n ∙ ap (bit_or (bit m n)) (bit_here n) ∙ or_one (bit m n) (omega arith)
-
-bit_kept : (m n k : ℕ) → n < 32 → (k ≡ n → ⊥) → bit (with_bit m n) k ≡ bit m k
-unfolding with_bit
-bit_kept m n k h ne =
-    ap (λ x. bit (bit_or m x) k) (one_shl n 32 h) ∙ bit_or_lem m (2 ^ n) k ∙ ap (bit_or (bit m k)) (bit_other n k ne) ∙ or_none (bit m k) (omega arith)
-
 module _ (P : ℕ → Type 0) where
   pub marks_none : Marks P 0 0
   unfolding Bit
   marks_none = record {
-    sound = λ o h. absurd (let z : bit 0 o ≡ 0 = ap (λ n. n % 2) (zero-div (2 ^ o)) in let y : ◌≡◌ {A = ℕ} 0 1 = sym z ∙ h in omega arith);
+    sound = λ o h. absurd (let y : ◌≡◌ {A = ℕ} 0 1 = sym (bit_at-zero o) ∙ h in omega arith);
     complete = λ o h. absurd (omega arith);
   }
 
@@ -84,28 +129,19 @@ module _ (P : ℕ → Type 0) where
     complete = below_more (λ o. P o → Bit m o) n was.complete (λ h. absurd (none h));
   }
 
-  pub marks_yes : (n m : ℕ) → n < 32 → P n → Marks P n m → Marks P (n + 1) (bit_or m ((1 * 2 ^ n) % 4294967296))
-  unfolding Bit with_bit
+  pub marks_yes : (n m : ℕ) → n < 32 → P n → Marks P n m → Marks P (n + 1) (bit_or m ((1 * 2 ^ n) % 2 ^ 32))
+  unfolding Bit
   marks_yes n m low here was = record {
     sound = λ o h. ⊎_elim
         (λ e. (omega arith, subst P (sym e) here))
-        (λ ne. let t = was.sound o (sym (bit_kept m n o low ne) ∙ h) in (let l : o < n = t.0 in omega arith, t.1))
+        (λ ne. let t = was.sound o (sym (bit_at_set_other w32 m n low o ne) ∙ h) in (let l : o < n = t.0 in omega arith, t.1))
         (cases_eq o n);
-    complete = below_more (λ o. P o → Bit (with_bit m n) o) n (λ o l h. bit_kept m n o low (λ e. omega arith) ∙ was.complete o l h) (λ h. bit_set m n low);
+    complete = below_more (λ o. P o → Bit (bit_or m ((1 * 2 ^ n) % 2 ^ 32)) o) n (λ o l h. bit_at_set_other w32 m n low o (λ e. omega arith) ∙ was.complete o l h) (λ h. bit_at_set_same w32 m n low);
   }
 
 -- what is counted fewer times than there are lists
-pub room_marks : (counts sizes : List ℕ) (p many mask : ℕ) → many ≡ product (set sizes p 1) → Marks (Fewer counts many p) 32 mask → Marks (Room counts sizes p) 32 mask
+pub room_marks : (counts sizes : List ℕ) (p many mask : ℕ) → many ≡ product (set sizes p 1) → Marks (Fewer counts many) 32 mask → Marks (Room counts sizes p) 32 mask
 room_marks counts sizes p many mask e k = record {
-  sound = λ o h. let t = k.sound o h in (t.0, record { room = subst (λ (n : ℕ). get_or counts (p * 32 + o) 0 < n) e t.1.less });
-  complete = λ o l h. k.complete o l (record { less = subst (λ (n : ℕ). get_or counts (p * 32 + o) 0 < n) (sym e) h.room });
+  sound = λ o h. let t = k.sound o h in (t.0, record { room = subst (λ (n : ℕ). get_or counts o 0 < n) e t.1.less });
+  complete = λ o l h. k.complete o l (record { less = subst (λ (n : ℕ). get_or counts o 0 < n) (sym e) h.room });
 }
-
--- the masks, position by position
-pub masks_more : (counts sizes masks : List ℕ) (position mask : ℕ) → position < length masks → Marks (Room counts sizes position) 32 mask
-    → ((p : ℕ) → p < position → Marks (Room counts sizes p) 32 (get_or masks p 0))
-    → (p : ℕ) → p < position + 1 → Marks (Room counts sizes p) 32 (get_or (set masks position mask) p 0)
-masks_more counts sizes masks position mask h here was =
-    below_more (λ p. Marks (Room counts sizes p) 32 (get_or (set masks position mask) p 0)) position
-    (λ p q. subst (λ (m : ℕ). Marks (Room counts sizes p) 32 m) (sym (get_or-set_other masks position p mask 0 (λ e. omega arith))) (was p q))
-    (subst (λ (m : ℕ). Marks (Room counts sizes position) 32 m) (sym (get_or-set_same masks position mask 0 h)) here)

@@ -1,14 +1,15 @@
 -- A showing by the counted support, and a fresh binder, in the words of a binder. Assumes nothing.
 use Rattle.std.proofs.Common.{◌≡◌, ℕ, ◌/◌, ◌<◌, ◌≤◌, Bool, true, ◌&&◌, T, ltb, List, [], map, length, get_or, sym, refl, ap, ◌∙◌, subst, ⊎_elim, arith}
+use Rattle.std.proofs.Math.Bool.{Bool-set}
 use Rattle.std.proofs.lemmas.Bool.{lt-ltb, le-ltb, cases_lt, cond-false, and_left}
 use Rattle.boxes.specs.Boxes.{Open, Fits}
 use Rattle.catalogue.specs.declared.counts.Counts.{Counts}
-use Rattle.catalogue.specs.declared.make.Make.TheVariants.{Bar}
+use Rattle.catalogue.specs.declared.make.Make.TheVariants.{Bar as BarMake}
 use Rattle.catalogue.specs.declared.view.View.{View}
 use Rattle.catalogue.specs.Content.{Sheet}
 use Rattle.catalogue.specs.Law.{Octets}
 use Rattle.catalogue.specs.Verdict.{content, accepts}
-use Rattle.catalogue.specs.Views.{Shown as Seen, showing}
+use Rattle.catalogue.specs.Views.{is_make, Shown as Seen, showing}
 use Rattle.binder.specs.Meaning.{Binding, Held, Shown}
 use Rattle.sheets.specs.Closing.{Narrowed, shorter}
 use Rattle.sheets.specs.Rules.{Fresh, scope_at, admits_at}
@@ -16,6 +17,8 @@ use Rattle.sheets.specs.Tables.{Taken, shown_in, shown_at, sheets_in}
 use Rattle.sheets.proofs.Chosen.{taken_of, taken_sheets}
 use Rattle.sheets.proofs.Narrowing.{Masks, BoxShown, shown_by_masks}
 use Rattle.sheets.proofs.Tabled.{at, none_at, sheets_long}
+use Rattle.binder.specs.declared.marks.Marks.{Marks}
+use Rattle.bar.specs.declared.bars.Bar.{Bar}
 use Rattle.bar.specs.Tally.{Spared, Backs}
 use Rattle.bar.specs.Bars.{keeps, barring}
 use Rattle.bar.specs.Proper.{GoodBar, scope_there, is_true}
@@ -56,9 +59,9 @@ module _ (m : Binding) (s : ℕ) (v : Seen) (scope : m.scope s ≡ v.scope) (kep
   box_shown : (c masks : List ℕ) → GoodBar v → length masks ≡ 8 → Backs b v.scope v.entries (length v.entries / 9) masks
       → Narrowed b c v.scope masks (shorter v.scope masks) → BoxShown m s b c
   box_shown c masks good eight k h =
-      let all : shorter v.scope masks ≡ length v.scope = omega (arith, good.short) in
+      let all : shorter v.scope masks ≡ length v.scope = omega (arith, good.scope.short) in
       shown_by_masks m s b c masks
-      (subst (λ (x : List ℕ). (p q : ℕ) → p < q → q < length x → get_or x p 0 ≡ get_or x q 0 → ⊥) (sym scope) good.apart)
+      (subst (λ (x : List ℕ). (p q : ℕ) → p < q → q < length x → get_or x p 0 ≡ get_or x q 0 → ⊥) (sym scope) good.scope.apart)
       (backs_masks masks k)
       (subst (λ (x : List ℕ). Narrowed b c x masks (length x)) (sym scope) (subst (λ (j : ℕ). Narrowed b c v.scope masks j) all h))
 
@@ -82,25 +85,33 @@ shown views n marks s v l e good b c masks eight k h =
       marked = λ i t x. refl;
     }
 
+-- a binder with the same marks is the same
+pub same_marks : (x : Bar) (marks : Marks) (bars : is_make BarMake x.sheets.make ≡ true) → marks ≡ x.marks → ◌≡◌ {A = Bar} (record { sheets = x.sheets; marks = marks; bars = bars }) x
+same_marks x marks bars e =
+    let f : Marks → Bar = λ m. record { sheets = x.sheets; marks = m; bars = bars } in
+    let g : is_make BarMake x.sheets.make ≡ true → Bar = λ b. record { sheets = x.sheets; marks = x.marks; bars = b } in
+    ap f e ∙ ap g (Bool-set _ _ bars x.bars)
+
 -- The views of a table that shows the bar sheets of a catalogue mean just these.
-module _ (views : List View) (n : ℕ) (t : Taken Bar views n) (whole : n ≤ length views) where
+module _ (views : List View) (n : ℕ) (t : Taken BarMake views n) (whole : n ≤ length views) where
   scopes : (s : ℕ) → (barring views n 0).scope s ≡ scope_at t.sheets s
   scopes s = ⊎_elim
-      (λ l. let a = at Bar views n t s l whole in scope_there views n 0 s l ∙ ap (λ v. v.scope) a.shows ∙ sym a.scope)
-      (λ h. cond-false (ltb s n) (shown_at views s).scope [] (le-ltb s n h) ∙ sym (none_at t.sheets s (omega (arith, sheets_long Bar views n t whole))).scope)
+      (λ l. let a = at BarMake views n t s l whole in scope_there views n 0 s l ∙ ap (λ v. v.scope) a.shows ∙ sym a.scope)
+      (λ h. cond-false (ltb s n) (shown_at views s).scope [] (le-ltb s n h) ∙ sym (none_at t.sheets s (omega (arith, sheets_long BarMake views n t whole))).scope)
       (cases_lt s n)
 
   rules : (s : ℕ) (l : List ℕ) → (barring views n 0).kept s l ≡ admits_at t.sheets s l
   rules s l = ⊎_elim
-      (λ h. let a = at Bar views n t s h whole in
+      (λ h. let a = at BarMake views n t s h whole in
       kept_there views n 0 s l h ∙ ap (λ v. keeps v l) a.shows ∙ keeps_admits t.options a.sheet a.good a.make l ∙ sym (a.admits l))
-      (λ h. and_left (ltb s n) (keeps (shown_at views s) l) (le-ltb s n h) ∙ sym ((none_at t.sheets s (omega (arith, sheets_long Bar views n t whole))).admits l))
+      (λ h. and_left (ltb s n) (keeps (shown_at views s) l) (le-ltb s n h) ∙ sym ((none_at t.sheets s (omega (arith, sheets_long BarMake views n t whole))).admits l))
       (cases_lt s n)
 
   fresh_taken : Fresh t.sheets (barring views n 0)
-  fresh_taken = record { count = sym (sheets_long Bar views n t whole); scope = scopes; kept = rules; marks = refl }
+  fresh_taken = record { count = sym (sheets_long BarMake views n t whole); scope = scopes; kept = rules; marks = refl }
 
-pub fresh : (bs : List ℕ) (c : Counts) → accepts bs c ≡ true → Octets bs → (views : List View) (n : ℕ) → shown_in views n ≡ map showing (sheets_in (content bs) Bar) → n ≤ length views
-    → Fresh (sheets_in (content bs) Bar) (barring views n 0)
-fresh bs c a o views n e whole =
-    subst (λ (ts : List Sheet). Fresh ts (barring views n 0)) (taken_sheets bs c a o Bar views n e) (fresh_taken views n (taken_of bs c a o Bar views n e) whole)
+pub fresh : (bs : List ℕ) (c : Counts) → accepts bs c ≡ true → Octets bs → (views : List View) (n marks : ℕ) → shown_in views n ≡ map showing (sheets_in (content bs) BarMake) → n ≤ length views → marks ≡ 0
+    → Fresh (sheets_in (content bs) BarMake) (barring views n marks)
+fresh bs c a o views n marks e whole none =
+    subst (λ (k : ℕ). Fresh (sheets_in (content bs) BarMake) (barring views n k)) (sym none)
+    (subst (λ (ts : List Sheet). Fresh ts (barring views n 0)) (taken_sheets bs c a o BarMake views n e) (fresh_taken views n (taken_of bs c a o BarMake views n e) whole))

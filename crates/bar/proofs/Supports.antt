@@ -1,31 +1,14 @@
 -- An option is supported exactly where fewer fitting rows have it than there are fitting lists that do. Assumes nothing.
-use Rattle.std.proofs.Common.{◌≡◌, ℕ, zero, suc, ◌+◌, ◌*◌, ◌<◌, ◌≤◌, List, [], ◌∷◌, map, length, get_or, take, set, sym, refl, ap, ◌∙◌, subst, ⊎_elim, arith, length-drop, length-take, get_or-drop, get_or-take}
+use Rattle.std.proofs.Common.{◌≡◌, ℕ, zero, suc, ◌<◌, ◌≤◌, List, [], ◌∷◌, map, length, get_or, take, set, sym, refl, ap, ◌∙◌, subst, ⊎_elim, arith, length-take, get_or-take}
 use lib.ListN.{length-map}
 use Rattle.std.proofs.lemmas.Bool.{cases_order, cases_lt}
 use Rattle.boxes.specs.Boxes.{Open, Fits}
 use Rattle.boxes.proofs.Bits.{open_low}
 use Rattle.sheets.specs.Tables.{row_at}
 use Rattle.bar.specs.Counted.{In, NoDup, Counts, product}
-use Rattle.bar.specs.Tally.{option_at, Suits, Bears, Room, Marks, RowsApart, Spared, Backs}
+use Rattle.bar.specs.Tally.{Bears, Room, Marks, RowsApart, Spared, Backs}
+use Rattle.bar.proofs.Products.{product_front}
 use Rattle.bar.proofs.Points.{Chosen, Apiece, in_map, of_map, once_map, pigeonhole}
-
--- a row by its bytes
-row_long : (entries : List ℕ) (k r : ℕ) → k ≤ 8 → 9 * r + 9 ≤ length entries → length (row_at entries k r) ≡ k
-row_long entries k r hk h = simp (length-take, length-drop) (omega arith)
-
-option_at_lem : (entries : List ℕ) (k r p : ℕ) → p < k → get_or (row_at entries k r) p 0 ≡ option_at entries r p
-option_at_lem entries k r p h = rw (get_or-take, get_or-drop)
-
--- a row suits the box exactly where its list fits it
-module _ (b scope entries : List ℕ) (r : ℕ) where
-  suits_fits : length scope ≤ 8 → 9 * r + 9 ≤ length entries → Suits b scope entries r (length scope) → Fits b scope (row_at entries (length scope) r)
-  suits_fits short h s = record {
-    long = row_long entries (length scope) r short h;
-    each = λ p l. subst (λ (o : ℕ). Open b (get_or scope p 0) o) (sym (option_at_lem entries (length scope) r p l)) (s.each p l);
-  }
-
-  fits_suits : Fits b scope (row_at entries (length scope) r) → Suits b scope entries r (length scope)
-  fits_suits f = record { each = λ p l. subst (λ (o : ℕ). Open b (get_or scope p 0) o) (option_at_lem entries (length scope) r p l) (f.each p l) }
 
 -- the open options of each slot, and how many they are
 module _ (b : List ℕ) where
@@ -100,7 +83,7 @@ module _ (b : List ℕ) where
       go f (suc p) h = f.each p (omega arith)
 
 -- an open option of the scope, and the rows that bear it
-module _ (b scope entries ns : List ℕ) (total : ℕ) (short : length scope ≤ 8) (whole : 9 * total ≤ length entries)
+module _ (b scope entries ns : List ℕ) (total : ℕ)
     (apart : RowsApart entries (length scope) total) (z : Sized b scope ns)
     (p o c : ℕ) (hp : p < length scope) (here : Open b (get_or scope p 0) o)
     (counts : Counts (Bears b scope entries p o) total c) where
@@ -122,10 +105,7 @@ module _ (b scope entries ns : List ℕ) (total : ℕ) (short : length scope ≤
   in_bearing : (r : ℕ) (l : List ℕ) → r < total → row_at entries (length scope) r ≡ l → Fits b scope l → get_or l p 0 ≡ o → In l bearing
   unfolding bearing
   in_bearing r l low e f h =
-      let bears : Bears b scope entries p o r = record {
-        suits = fits_suits b scope entries r (subst (λ (m : List ℕ). Fits b scope m) (sym e) f);
-        has = sym (option_at_lem entries (length scope) r p hp) ∙ ap (λ m. get_or m p 0) e ∙ h;
-      } in
+      let bears : Bears b scope entries p o r = record { fits = subst (λ (m : List ℕ). Fits b scope m) (sym e) f; has = ap (λ m. get_or m p 0) e ∙ h } in
       subst (λ (m : List ℕ). In m (map (row_at entries (length scope)) counts.list)) e (in_map (row_at entries (length scope)) r counts.list (counts.complete r low bears))
 
   bearing_once : NoDup bearing
@@ -137,8 +117,7 @@ module _ (b scope entries ns : List ℕ) (total : ℕ) (short : length scope ≤
   bearing_chosen : (l : List ℕ) → In l bearing → Chosen l (options_of b scope ns z) × (get_or l p 0 ≡ o)
   bearing_chosen l i =
       let t = of_bearing l i in
-      let f : Fits b scope l = subst (λ (m : List ℕ). Fits b scope m) (sym t.3) (suits_fits b scope entries t.0 short (let h : t.0 < total = t.1 in omega arith) t.2.suits) in
-      (fits_chosen b scope ns z l f, ap (λ m. get_or m p 0) t.3 ∙ option_at_lem entries (length scope) t.0 p hp ∙ t.2.has)
+      (fits_chosen b scope ns z l (subst (λ (m : List ℕ). Fits b scope m) (sym t.3) t.2.fits), ap (λ m. get_or m p 0) t.3 ∙ t.2.has)
 
   spare : (length bearing < product (set (map length (options_of b scope ns z)) p 1) → (l : List ℕ) × Chosen l (options_of b scope ns z) × (get_or l p 0 ≡ o) × (In l bearing → ⊥))
       × (product (set (map length (options_of b scope ns z)) p 1) ≤ length bearing → (l : List ℕ) → Chosen l (options_of b scope ns z) → get_or l p 0 ≡ o → In l bearing)
@@ -163,25 +142,29 @@ module _ (b scope entries ns : List ℕ) (total : ℕ) (short : length scope ≤
       (cases_lt c (product (set ns p 1)))
 
 -- the whole
-pub backs : (b scope entries sizes counts masks : List ℕ) (total : ℕ) → length scope ≤ 8 → length sizes ≡ 8 → 9 * total ≤ length entries → RowsApart entries (length scope) total
+pub backs : (b scope entries sizes : List ℕ) (counts : List (List ℕ)) (masks : List ℕ) (total : ℕ) → length scope ≤ 8 → length sizes ≡ 8 → RowsApart entries (length scope) total
     → ((p : ℕ) → p < length scope → Counts (Open b (get_or scope p 0)) 32 (get_or sizes p 0))
-    → ((p o : ℕ) → p < length scope → o < 32 → Counts (Bears b scope entries p o) total (get_or counts (p * 32 + o) 0))
-    → ((p : ℕ) → p < length scope → Marks (Room counts (take (length scope) sizes) p) 32 (get_or masks p 0))
+    → ((p : ℕ) → length scope ≤ p → p < 8 → get_or sizes p 0 ≡ 1)
+    → ((p o : ℕ) → p < length scope → o < 32 → Counts (Bears b scope entries p o) total (get_or (get_or counts p []) o 0))
+    → ((p : ℕ) → p < 8 → Marks (Room (get_or counts p []) sizes p) 32 (get_or masks p 0))
     → Backs b scope entries total masks
-backs b scope entries sizes counts masks total short eight whole apart each tallied marked =
+backs b scope entries sizes counts masks total short eight apart each past tallied marked =
     let ns = take (length scope) sizes in
     let long : length scope ≡ length (take (length scope) sizes) = simp length-take (omega arith) in
     let z : Sized b scope (take (length scope) sizes) = sized_from b scope (take (length scope) sizes) long
     (λ q h. subst (λ (n : ℕ). Counts (Open b (get_or scope q 0)) 32 n) (sym (get_or-take (length scope) sizes q 0 h)) (each q h)) in
+    let front : (p : ℕ) → p < length scope → product (set (take (length scope) sizes) p 1) ≡ product (set sizes p 1) =
+    λ p h. product_front sizes (length scope) p h (λ q l k. past q l (omega arith)) in
     record {
       sound = λ p o hp here h.
-          spared_if b scope entries (take (length scope) sizes) total short whole apart z p o (get_or counts (p * 32 + o) 0) hp here (tallied p o hp (open_low b (get_or scope p 0) o here))
-          ((marked p hp).sound o h).1.room;
+          spared_if b scope entries (take (length scope) sizes) total apart z p o (get_or (get_or counts p []) o 0) hp here (tallied p o hp (open_low b (get_or scope p 0) o here))
+          (let room = ((marked p (omega arith)).sound o h).1.room in omega (arith, room, front p hp));
       complete = λ p o hp s.
           let here : Open b (get_or scope p 0) o = subst (Open b (get_or scope p 0)) s.holds (s.fits.each p hp) in
           let low : o < 32 = open_low b (get_or scope p 0) o here in
-          (marked p hp).complete o low (record {
+          (marked p (omega arith)).complete o low (record {
             room =
-                spared_only_if b scope entries (take (length scope) sizes) total short whole apart z p o (get_or counts (p * 32 + o) 0) hp here (tallied p o hp low) s;
+                let less = spared_only_if b scope entries (take (length scope) sizes) total apart z p o (get_or (get_or counts p []) o 0) hp here (tallied p o hp low) s in
+                omega (arith, less, front p hp);
           });
     }

@@ -1,10 +1,10 @@
 -- What bar sheets mean as a binder: each keeps every list that is not among its rows. Assumes nothing.
-use Rattle.std.specs.Prelude.{ℕ, zero, suc, ◌/◌, Bool, cond, not, ◌&&◌, List, [], ◌∷◌, length, nat_lt}
+use Rattle.std.specs.Prelude.{ℕ, zero, suc, ◌/◌, Bool, not, ◌&&◌, List, [], ◌∷◌, length, nat_lt}
 use Rattle.catalogue.specs.declared.view.View.{View}
 use Rattle.catalogue.specs.Checks.{has_list}
 use Rattle.catalogue.specs.Views.{Shown}
 use Rattle.binder.specs.Meaning.{Binding}
-use Rattle.sheets.specs.Tables.{shown_at, row_at}
+use Rattle.sheets.specs.Tables.{scope_in, shown_at, row_at}
 use Rattle.sheets.specs.Rules.{is_list}
 
 -- n rows of some entries, from row r on
@@ -24,7 +24,7 @@ keeps v l = is_list (length v.scope) l && not (has_list l (rows_of v))
 abbrev pub barring : List View → ℕ → ℕ → Binding
 barring views n marks = record {
   count = n;
-  scope = λ s. cond (nat_lt s n) (shown_at views s).scope [];
+  scope = scope_in views n;
   kept = λ s l. nat_lt s n && keeps (shown_at views s) l;
   marks = marks;
   marked = λ i s l. nat_lt s n && keeps (shown_at views s) l;

@@ -18,16 +18,14 @@ use Rattle.binder.specs.Meaning.{Listed, Proper}
 use Rattle.sheets.specs.Tables.{Taken, shown_in, shown_at}
 use Rattle.sheets.specs.Rules.{is_list}
 use Rattle.sheets.proofs.Tabled.{at}
+use Rattle.sheets.proofs.Scopes.{GoodScope, scope_at}
 use Rattle.sheets.proofs.Entries.{entries_rows, row_at_lem}
 use Rattle.bar.specs.Tally.{RowsApart}
 use Rattle.bar.specs.Bars.{keeps, barring}
 
 -- what holds of a bar sheet of a sound catalogue, as it is shown
 pub record GoodBar (v : Shown) : Type 0 where
-  pub some : 1 ≤ length v.scope
-  pub short : length v.scope ≤ 8
-  pub slots : (p : ℕ) → p < length v.scope → slice_index v.scope p < 48
-  pub apart : (p q : ℕ) → p < q → q < length v.scope → slice_index v.scope p ≢ slice_index v.scope q
+  pub scope : GoodScope v.scope
   pub few : length v.entries / 9 ≤ 4096
   pub rows : RowsApart v.entries (length v.scope) (length v.entries / 9)
 
@@ -39,18 +37,18 @@ apart_at d (x ∷ xs) a (suc i) zero l h e = absurd (omega arith)
 apart_at d (x ∷ xs) a zero (suc j) l h e = All-get_or (λ y. x ≢ y) xs j d (omega arith) a.0 e
 apart_at d (x ∷ xs) a (suc i) (suc j) l h e = apart_at d xs a.1 i j (omega arith) (omega arith) e
 
--- a good bar sheet is shown as one
-good_showing : (options : List ℕ) (t : Sheet) → length options ≤ 48 → GoodSheet options t → t.make ≡ Bar → length t.rows ≤ 4096 → GoodBar (showing t)
-good_showing options t low g m few =
+-- the rows of a good bar sheet, as it is shown, are few and all different
+record GoodRows (v : Shown) : Type 0 where
+  few : length v.entries / 9 ≤ 4096
+  apart : RowsApart v.entries (length v.scope) (length v.entries / 9)
+
+good_rows : (options : List ℕ) (t : Sheet) → GoodSheet options t → t.make ≡ Bar → length t.rows ≤ 4096 → GoodRows (showing t)
+good_rows options t g m few =
     let long : length (entry_bytes t) ≡ 9 * length t.rows = entries_rows options t g (ap is_load m) in
     let total : length (entry_bytes t) / 9 ≡ length t.rows = omega arith in
     record {
-      some = g.some;
-      short = g.few;
-      slots = λ p h. omega (arith, All-get_or (λ s. s < length options) t.scope p 0 h g.known);
-      apart = apart_at 0 t.scope g.apart;
       few = omega arith;
-      rows = λ u v l h e. apart_at [] t.rows g.rows_apart u v l (omega arith)
+      apart = λ u v l h e. apart_at [] t.rows g.rows_apart u v l (omega arith)
           (sym (row_at_lem options t g u (omega arith)) ∙ e ∙ row_at_lem options t g v (omega arith));
     }
 
@@ -67,12 +65,12 @@ few_rows options (t ∷ ts) (v ∷ vs) (suc n) (suc s) good bars e l h =
     let rest : map showing ts ≡ shown_in vs n = cc in
     omega (arith, few_rows options ts vs n s good.1 bars.1 rest (omega arith) (omega arith))
 
-good_taken : (views : List View) (n : ℕ) (t : Taken Bar views n) (s : ℕ) → s < n → n ≤ length views → GoodBar (shown_at views s)
-good_taken views n t s l h =
+taken_rows : (views : List View) (n : ℕ) (t : Taken Bar views n) (s : ℕ) → s < n → n ≤ length views → GoodRows (shown_at views s)
+taken_rows views n t s l h =
     let a = at Bar views n t s l h in
     let some : length (entry_bytes a.sheet) ≡ length (shown_at views s).entries = ap (λ k. length k.entries) (sym a.shows) in
     let few : length a.sheet.rows ≤ 4096 = omega (arith, t.rows, few_rows t.options t.sheets views n s t.good t.one_make t.is l h, entries_rows t.options a.sheet a.good (ap is_load a.make)) in
-    subst GoodBar (sym a.shows) (good_showing t.options a.sheet t.slots a.good a.make few)
+    subst GoodRows (sym a.shows) (good_rows t.options a.sheet a.good a.make few)
 
 same_make : (m : Make) → is_make Bar m ≡ true → m ≡ Bar
 same_make Fit e = absurd (false≢true e)
@@ -81,17 +79,14 @@ same_make Load e = absurd (false≢true e)
 
 -- the views of a table of bar sheets are good, though it does not say by what catalogue
 module _ (m : Make) (views : List View) (n : ℕ) (bars : is_make Bar m ≡ true) (taken : ∥ Taken m views n ∥₁) (few : n ≤ 64) (long : length views ≡ 64) where
-  sure : {P : Type 0} → IsProp P → (s : ℕ) → s < n → (GoodBar (shown_at views s) → P) → P
-  sure prop s l f = ∥∥₁_elim taken prop (λ t. f (good_taken views n (subst (λ (k : Make). Taken k views n) (same_make m bars) t) s l (omega arith)))
+  sure : {P : Type 0} → IsProp P → (s : ℕ) → s < n → (GoodRows (shown_at views s) → P) → P
+  sure prop s l f = ∥∥₁_elim taken prop (λ t. f (taken_rows views n (subst (λ (k : Make). Taken k views n) (same_make m bars) t) s l (omega arith)))
 
   pub good_at : (s : ℕ) → s < n → GoodBar (shown_at views s)
   good_at s l = record {
-    some = sure le_prop s l (λ k. k.some);
-    short = sure le_prop s l (λ k. k.short);
-    slots = λ p h. sure le_prop s l (λ k. k.slots p h);
-    apart = λ p q h j e. sure ⊥_prop s l (λ k. k.apart p q h j e);
+    scope = scope_at m views n taken (omega arith) s l;
     few = sure le_prop s l (λ k. k.few);
-    rows = λ u v h j e. sure ⊥_prop s l (λ k. k.rows u v h j e);
+    rows = λ u v h j e. sure ⊥_prop s l (λ k. k.apart u v h j e);
   }
 
 -- the scope of a sheet that is there
@@ -131,10 +126,10 @@ barring_proper m views n marks bars taken few long low =
     record {
       few = omega arith;
       low = low;
-      some = scopes (λ x. 1 ≤ length x) views n marks (λ s l. (good s l).some);
-      short = scopes (λ x. length x ≤ 8) views n marks (λ s l. (good s l).short);
-      slots = λ s p l. scopes (λ x. p < length x → slice_index x p < 48) views n marks (λ s l. (good s l).slots p) s l;
-      apart = λ s p q l. scopes (λ x. p < q → q < length x → slice_index x p ≢ slice_index x q) views n marks (λ s l. (good s l).apart p q) s l;
+      some = scopes (λ x. 1 ≤ length x) views n marks (λ s l. (good s l).scope.some);
+      short = scopes (λ x. length x ≤ 8) views n marks (λ s l. (good s l).scope.short);
+      slots = λ s p l. scopes (λ x. p < length x → slice_index x p < 48) views n marks (λ s l. (good s l).scope.covered p) s l;
+      apart = λ s p q l. scopes (λ x. p < q → q < length x → slice_index x p ≢ slice_index x q) views n marks (λ s l. (good s l).scope.apart p q) s l;
       listed = kept_listed views n marks;
       listed_then = λ i. kept_listed views n marks;
     }

@@ -1,35 +1,26 @@
 -- What a showing of a bar sheet counts, and the options that it finds supported. Assumes nothing.
-use Rattle.std.specs.Prelude.{◌≡◌, ℕ, ◌+◌, ◌*◌, ◌<◌, List, length, ◌≢◌, slice_index, slice_index_or, slice_set}
+use Rattle.std.specs.Prelude.{◌≡◌, ℕ, ◌+◌, ◌<◌, List, [], length, ◌≢◌, slice_index, slice_index_or, slice_set}
 use Rattle.boxes.specs.Boxes.{Open, Fits, Bit}
 use Rattle.sheets.specs.Tables.{row_at}
 use Rattle.bar.specs.Counted.{product}
 
--- the option of row r at position p: rows are nine bytes long, the first is the kind
-abbrev pub option_at : List ℕ → ℕ → ℕ → ℕ
-option_at entries r p = slice_index entries (9 * r + 1 + p)
-
--- the first n options of row r are open at the slots of the scope
-pub record Suits (b scope entries : List ℕ) (r n : ℕ) : Type 0 where
-  pub each : (p : ℕ) → p < n → Open b (slice_index scope p) (option_at entries r p)
-
 -- row r fits the box, and has option o at position p
 pub record Bears (b scope entries : List ℕ) (p o r : ℕ) : Type 0 where
-  pub suits : Suits b scope entries r (length scope)
-  pub has : option_at entries r p ≡ o
+  pub fits : Fits b scope (row_at entries (length scope) r)
+  pub has : slice_index (row_at entries (length scope) r) p ≡ o
 
--- ys is xs with row r counted once at each of its first n positions, under the option that it has there
-pub record Tallied (entries : List ℕ) (r n : ℕ) (xs ys : List ℕ) : Type 0 where
-  pub long : length ys ≡ length xs
-  pub hit : (p : ℕ) → p < n → slice_index ys (p * 32 + option_at entries r p) ≡ slice_index xs (p * 32 + option_at entries r p) + 1
-  pub miss : (p o : ℕ) → o < 32 → (p < n → option_at entries r p ≢ o) → slice_index ys (p * 32 + o) ≡ slice_index xs (p * 32 + o)
+-- a table of counts, after a row is counted once at each of its first n positions, under the option that it has there
+pub record Tallied (options : List ℕ) (n : ℕ) (xs ys : List (List ℕ)) : Type 0 where
+  pub hit : (p : ℕ) → p < n → slice_index (slice_index_or ys p []) (slice_index options p) ≡ slice_index (slice_index_or xs p []) (slice_index options p) + 1
+  pub miss : (p o : ℕ) → (p < n → slice_index options p ≢ o) → slice_index (slice_index_or ys p []) o ≡ slice_index (slice_index_or xs p []) o
 
--- option o is counted fewer than `many` times at position p
-pub record Fewer (counts : List ℕ) (many p o : ℕ) : Type 0 where
-  pub less : slice_index_or counts (p * 32 + o) 0 < many
+-- option o is counted fewer than `many` times
+pub record Fewer (counts : List ℕ) (many o : ℕ) : Type 0 where
+  pub less : slice_index counts o < many
 
--- option o is counted fewer times at position p than there are lists over the other sizes
+-- option o of position p is counted fewer times than there are lists over the other sizes
 pub record Room (counts sizes : List ℕ) (p o : ℕ) : Type 0 where
-  pub room : slice_index_or counts (p * 32 + o) 0 < product (slice_set sizes p 1)
+  pub room : slice_index counts o < product (slice_set sizes p 1)
 
 -- the bits of a mask are the numbers below n that meet P
 pub record Marks (P : ℕ → Type 0) (n mask : ℕ) : Type 0 where

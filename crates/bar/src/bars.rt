@@ -12,6 +12,7 @@ ghost use Rattle.bar.specs.Proper.{barring_proper};
 
 use crate::tally::supports;
 use binder::binders::Binder;
+use binder::marks::Marks;
 use binder::refusal::Refusal;
 use boxes::OptionBox;
 use catalogue::checked::Catalogue;
@@ -20,90 +21,67 @@ use sheets::closing::keep_only;
 use sheets::table::Sheets;
 use sheets::taking::sheets_of;
 
-// The most marks that may stand.
-const MARKS: usize = 72;
-
 // Each sheet keeps every list that is not among its rows. What it keeps never changes, so that a mark is
 // only counted.
 #[derive(Drop)]
 pub struct Bar<'a> {
     sheets: Sheets<'a>,
-    marks: usize,
-    ghost low: { marks ≤ 72 },
+    marks: Marks,
     ghost bars: { is_make BarMake sheets.make ≡ true },
 }
 
 impl<'a> Bar<'a> {
     // The bar sheets of a checked catalogue, with no mark.
     pub fn new(catalogue: &Catalogue<'a>) -> Bar<'a>
-        ensures { Fresh (sheets_in (content catalogue.now.bytes.now) BarMake) (barring result.sheets.views result.sheets.count result.marks) }
+        ensures { Fresh (sheets_in (content catalogue.now.bytes.now) BarMake) (barring result.sheets.views result.sheets.count result.marks.count) }
     {
         let sheets = sheets_of(catalogue, Make::Bar);
-        Bar { sheets, marks: 0 }
+        Bar {
+            sheets,
+            marks: Marks::none(),
+        }
     }
 }
 
 impl<'a> Binder for Bar<'a> {
-    ghost meaning = { λ x. barring x.sheets.views x.sheets.count x.marks };
+    ghost meaning = { λ x. barring x.sheets.views x.sheets.count x.marks.count };
 
-    ghost proper = { λ x. barring_proper x.sheets.make x.sheets.views x.sheets.count x.marks x.bars x.sheets.taken x.sheets.few x.sheets.long x.low };
+    ghost proper = { λ x. barring_proper x.sheets.make x.sheets.views x.sheets.count x.marks.count x.bars x.sheets.taken x.sheets.few x.sheets.long x.marks.few };
 
     fn sheets(&self) -> usize {
         self.sheets.count
     }
 
     fn marks(&self) -> usize {
-        self.marks
+        self.marks.count
     }
 
     fn arity(&self, sheet: usize) -> Result<usize, Refusal> {
-        if sheet >= self.sheets.count {
-            return Err(Refusal::NotThere);
-        }
-        let view = self.sheets.view(sheet);
-        Ok(view.scope.len())
+        self.sheets.arity(sheet)
     }
 
     fn slot_at(&self, sheet: usize, position: usize) -> Result<usize, Refusal> {
-        if sheet >= self.sheets.count {
-            return Err(Refusal::NotThere);
-        }
-        let view = self.sheets.view(sheet);
-        if position >= view.scope.len() {
-            return Err(Refusal::NotThere);
-        }
-        Ok(view.scope[position] as usize)
+        self.sheets.slot_at(sheet, position)
     }
 
     // Closes what the lists that are no rows do not hold. The binder itself stays as it is, so each sheet
     // goes on keeping every list that is not among its rows.
     fn show(&mut self, sheet: usize, slate: &mut OptionBox) -> Result<(), Refusal>
-        ensures shown { MatchResult result (λ _. (sheet < (barring self.old.sheets.views self.old.sheets.count self.old.marks).count) × Shown (barring self.old.sheets.views self.old.sheets.count self.old.marks) (barring self.new.sheets.views self.new.sheets.count self.new.marks) sheet slate.old.cells slate.new.cells)
-            (λ e. (e ≡ NotThere) × ((barring self.old.sheets.views self.old.sheets.count self.old.marks).count ≤ sheet) × (self.new ≡ self.old) × (slate.new ≡ slate.old)) }
+        ensures shown { MatchResult result (λ _. (sheet < (barring self.old.sheets.views self.old.sheets.count self.old.marks.count).count) × Shown (barring self.old.sheets.views self.old.sheets.count self.old.marks.count) (barring self.new.sheets.views self.new.sheets.count self.new.marks.count) sheet slate.old.cells slate.new.cells)
+            (λ e. (e ≡ NotThere) × ((barring self.old.sheets.views self.old.sheets.count self.old.marks.count).count ≤ sheet) × (self.new ≡ self.old) × (slate.new ≡ slate.old)) }
         ensures stays { self.new ≡ self.old }
     {
-        if sheet >= self.sheets.count {
-            return Err(Refusal::NotThere);
-        }
-        let view = self.sheets.view(sheet);
-        let masks = supports(view.entries, view.scope, slate);
-        keep_only(slate, view.scope, &masks);
+        let shown = self.sheets.sheet(sheet)?;
+        let masks = supports(&shown, slate);
+        keep_only(slate, shown.scope.slots, &masks);
         Ok(())
     }
 
     fn mark(&mut self) -> Result<(), Refusal> {
-        if self.marks >= MARKS {
-            return Err(Refusal::TooManyMarks);
-        }
-        self.marks += 1;
-        Ok(())
+        self.marks.add()
     }
 
     fn undo(&mut self) -> Result<(), Refusal> {
-        if self.marks == 0 {
-            return Err(Refusal::NoMark);
-        }
-        self.marks -= 1;
-        Ok(())
+        self.marks.drop_newest()
     }
 }

@@ -1,125 +1,119 @@
 // Finds by counting which options of a bar sheet's scope are supported: those that some list has which
 // fits the box and is not among the rows. Rows are all different, so such a list is left exactly where
 // fewer fitting rows have the option than there are fitting lists that do.
-ghost use Rattle.std.specs.Prelude.{◌≡◌, ℕ, ◌+◌, ◌*◌, ◌/◌, ◌<◌, ◌≤◌, length, take, set, Decides, slice_index, slice_set};
-ghost use Rattle.boxes.specs.Boxes.{Open, Bit};
+ghost use Rattle.std.specs.Prelude.{◌≡◌, ℕ, ◌/◌, ◌<◌, ◌≤◌, [], length, slice_index, slice_index_or, slice_set};
+ghost use Rattle.boxes.specs.Boxes.{Open};
 ghost use Rattle.bar.specs.Counted.{Counts, product};
-ghost use Rattle.bar.specs.Tally.{option_at, Suits, Bears, Tallied, Fewer, Room, Marks, RowsApart, Backs};
+ghost use Rattle.bar.specs.Tally.{Bears, Tallied, Fewer, Room, Marks, RowsApart, Backs};
 
 use boxes::OptionBox;
+use sheets::scope::Scope;
+use sheets::sheet::{ROW, Sheet};
+use std::array;
 
-// How many bytes a row takes, its byte of kind among them.
-const ROW: usize = 9;
+// How many options are open at each position of a scope, and 1 at each position past its last.
+#[derive(Drop)]
+struct Sizes {
+    each: [u64; 8],
+    ghost long: { length each ≡ 8 },
+    ghost low: { (p : ℕ) → p < 8 → slice_index each p ≤ 32 },
+}
 
-// Whether a row fits the box.
-fn row_fits(entries: &[u8], row: usize, scope: &[u8], slate: &OptionBox) -> bool
-    requires { (length scope.now ≤ 8) × (9 * row + 9 ≤ length entries.now) }
-    ensures { Decides result (Suits slate.now.cells scope.now entries.now row (length scope.now)) }
-{
-    for position in 0..scope.len() {
-        if !slate.is_open(scope[position] as usize, entries[ROW * row + 1 + position]) {
-            return false;
+impl Sizes {
+    fn of(scope: &Scope, slate: &OptionBox) -> Sizes
+        ensures open { (p : ℕ) → p < length scope.now.slots.now → Counts (Open slate.now.cells (slice_index scope.now.slots.now p)) 32 (slice_index result.each p) }
+        ensures past { (p : ℕ) → length scope.now.slots.now ≤ p → p < 8 → slice_index result.each p ≡ 1 }
+    {
+        let mut each = [1; 8];
+        for (position, slot) in scope.slots.iter().enumerate() {
+            each[position] = u64::from(slate.cells[*slot as usize].count_ones());
         }
+        Sizes { each }
     }
-    true
-}
 
-// Counts a row once at each position, under the option that it has there.
-fn tally_row(entries: &[u8], row: usize, arity: usize, counts: &mut [u32; 256])
-    requires { (arity ≤ 8) × ((9 * row + 9 ≤ length entries.now) × ((((p : ℕ) → p < arity → option_at entries.now row p < 32)) × (((p o : ℕ) → p < arity → o < 32 → slice_index counts.old (p * 32 + o) < 65536)))) }
-    ensures { Tallied entries.now row arity counts.old counts.new }
-{
-    for position in 0..arity {
-        let option = entries[ROW * row + 1 + position] as usize;
-        counts[position * 32 + option] += 1;
-    }
-}
-
-// How many options a cell has open.
-fn size_of(cell: u32) -> u64
-    ensures { Counts (Bit cell) 32 result }
-{
-    cell.count_ones() as u64
-}
-
-// How many options are open at each slot of the scope.
-fn sizes_of(scope: &[u8], slate: &OptionBox) -> [u64; 8]
-    requires { (length scope.now ≤ 8) × (((p : ℕ) → p < length scope.now → slice_index scope.now p < 48)) }
-    ensures { (p : ℕ) → p < length scope.now → Counts (Open slate.now.cells (slice_index scope.now p)) 32 (slice_index result p) }
-{
-    let mut sizes = [0; 8];
-    for position in 0..scope.len() {
-        sizes[position] = size_of(slate.cells[scope[position] as usize]);
-    }
-    sizes
-}
-
-// Of the rows that fit the box, how many have each option at each position.
-//
-//   counts:  [ position 0: options 0 .. 31 | position 1: options 0 .. 31 | .. | position 7 ]
-fn tally(entries: &[u8], total: usize, scope: &[u8], slate: &OptionBox) -> [u32; 256]
-    requires { (length scope.now ≤ 8) × ((9 * total ≤ length entries.now) × (total ≤ 65536)) }
-    ensures { (p o : ℕ) → p < length scope.now → o < 32 → Counts (Bears slate.now.cells scope.now entries.now p o) total (slice_index result (p * 32 + o)) }
-{
-    let mut counts = [0; 256];
-    for row in 0..total {
-        if row_fits(entries, row, scope, slate) {
-            tally_row(entries, row, scope.len(), &mut counts);
+    // How many lists fit the box and have a given open option at a position: the product of the other sizes,
+    // which is 0 where another slot has no open option.
+    fn others(&self, position: usize) -> u64
+        ensures { result ≡ product (slice_set self.now.each position 1) }
+    {
+        let mut many = 1;
+        for (place, size) in self.each.iter().enumerate() {
+            if place != position {
+                many *= *size;
+            }
         }
+        many
     }
-    counts
 }
 
-// How many lists fit the box and have a given open option at a position: the product of the other sizes,
-// which is 0 where another slot has no open option.
-fn others(sizes: &[u64; 8], arity: usize, position: usize) -> u64
-    requires { (arity ≤ 8) × (((p : ℕ) → p < arity → slice_index sizes.now p ≤ 32)) }
-    ensures { result ≡ product (slice_set (take arity sizes.now) position 1) }
-{
-    let mut many = 1;
-    for place in 0..arity {
-        if place != position {
-            many *= sizes[place];
-        }
-    }
-    many
-}
-
-// The options that are counted fewer than `many` times at a position.
-fn mask_of(counts: &[u32; 256], position: usize, many: u64) -> u32
-    requires { position < 8 }
-    ensures { Marks (Fewer counts.now many position) 32 result }
+// The options that are counted fewer than `many` times.
+fn mask_of(counts: &[u32; 32], many: u64) -> u32
+    ensures { Marks (Fewer counts.now many) 32 result }
 {
     let mut mask = 0;
-    for option in 0..32 {
-        if (counts[position * 32 + option] as u64) < many {
+    for (option, count) in counts.iter().enumerate() {
+        if u64::from(*count) < many {
             mask |= 1 << option;
         }
     }
     mask
 }
 
-// At each position, the options that are counted fewer times than there are lists that have them.
-fn masks_of(counts: &[u32; 256], sizes: &[u64; 8], arity: usize) -> [u32; 8]
-    requires { (arity ≤ 8) × (((p : ℕ) → p < arity → slice_index sizes.now p ≤ 32)) }
-    ensures { (p : ℕ) → p < arity → Marks (Room counts.now (take arity sizes.now) p) 32 (slice_index result p) }
-{
-    let mut masks = [0; 8];
-    for position in 0..arity {
-        masks[position] = mask_of(counts, position, others(sizes, arity, position));
+// How many rows have each option at each position.
+//
+//   counts:  position 0: [ options 0 .. 31 ], position 1: [ options 0 .. 31 ], .. position 7
+#[derive(Drop)]
+struct Tally {
+    counts: [[u32; 32]; 8],
+    ghost long: { length counts ≡ 8 },
+    ghost wide: { (p : ℕ) → p < 8 → length (slice_index_or counts p []) ≡ 32 },
+}
+
+impl Tally {
+    // Of the rows of a sheet that fit the box, how many have each option at each position.
+    fn of(sheet: &Sheet, slate: &OptionBox) -> Tally
+        requires { length sheet.now.entries.now / 9 ≤ 65536 }
+        ensures { (p o : ℕ) → p < length sheet.now.scope.slots.now → o < 32
+            → Counts (Bears slate.now.cells sheet.now.scope.slots.now sheet.now.entries.now p o) (length sheet.now.entries.now / 9) (slice_index (slice_index_or result.counts p []) o) }
+    {
+        let mut tally = Tally {
+            counts: [[0; 32]; 8],
+        };
+        for row in sheet.entries.chunks_exact(ROW) {
+            let options = &row[1..=sheet.scope.slots.len()];
+            if sheet.scope.fits(slate, options) {
+                tally.add(options);
+            }
+        }
+        tally
     }
-    masks
+
+    // Counts a row once at each position, under the option that it has there.
+    fn add(&mut self, options: &[u8])
+        requires short { length options.now ≤ 8 }
+        requires low { (p : ℕ) → p < length options.now → slice_index options.now p < 32 }
+        requires few { (p o : ℕ) → p < length options.now → o < 32 → slice_index (slice_index_or self.old.counts p []) o < 65536 }
+        ensures { Tallied options.now (length options.now) self.old.counts self.new.counts }
+    {
+        for (position, option) in options.iter().enumerate() {
+            self.counts[position][*option as usize] += 1;
+        }
+    }
+
+    // At each position, the options that are counted fewer times than there are lists that have them.
+    fn masks(&self, sizes: &Sizes) -> [u32; 8]
+        ensures { (p : ℕ) → p < 8 → Marks (Room (slice_index_or self.now.counts p []) sizes.now.each p) 32 (slice_index result p) }
+    {
+        array::from_fn(|position| mask_of(&self.counts[position], sizes.others(position)))
+    }
 }
 
 // At each position, the supported options. A bit may be set for an option that is not open.
-pub(crate) fn supports(entries: &[u8], scope: &[u8], slate: &OptionBox) -> [u32; 8]
-    requires short { length scope.now ≤ 8 }
-    requires slots { (p : ℕ) → p < length scope.now → slice_index scope.now p < 48 }
-    requires few { length entries.now / 9 ≤ 65536 }
-    requires apart { RowsApart entries.now (length scope.now) (length entries.now / 9) }
-    ensures { Backs slate.now.cells scope.now entries.now (length entries.now / 9) result }
+pub(crate) fn supports(sheet: &Sheet, slate: &OptionBox) -> [u32; 8]
+    requires few { length sheet.now.entries.now / 9 ≤ 65536 }
+    requires apart { RowsApart sheet.now.entries.now (length sheet.now.scope.slots.now) (length sheet.now.entries.now / 9) }
+    ensures { Backs slate.now.cells sheet.now.scope.slots.now sheet.now.entries.now (length sheet.now.entries.now / 9) result }
 {
-    let sizes = sizes_of(scope, slate);
-    let counts = tally(entries, entries.len() / ROW, scope, slate);
-    masks_of(&counts, &sizes, scope.len())
+    let sizes = Sizes::of(&sheet.scope, slate);
+    Tally::of(sheet, slate).masks(&sizes)
 }

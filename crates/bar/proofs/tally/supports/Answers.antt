@@ -1,9 +1,10 @@
-use Rattle.std.proofs.Common.{◌≡◌, ◌/◌, length, arith, rules}
+use Rattle.std.proofs.Common.{◌/◌, length}
 use Rattle.bar.proofs.Supports.{backs}
 use Rattle.bar.proofs.tally.supports.Goals as goal
 
 pub returns : goal.returns
 returns c =
-    let eight : length c.sizes_of-sizes.result ≡ 8 = search rules in
-    backs c.args.slate.now.cells c.args.scope.now c.args.entries.now c.sizes_of-sizes.result c.tally-counts.result c.masks_of.result
-    (length c.args.entries.now / 9) c.requires.short eight (omega arith) c.requires.apart c.sizes_of-sizes.ensures c.tally-counts.ensures c.masks_of.ensures
+    let sizes = c.of-sizes in
+    let sheet = c.args.sheet.now in
+    backs c.args.slate.now.cells sheet.scope.slots.now sheet.entries.now sizes.result.each c.of.result.counts c.masks.result (length sheet.entries.now / 9)
+    sheet.scope.short sizes.result.long c.requires.apart sizes.ensures.open sizes.ensures.past c.of.ensures c.masks.ensures

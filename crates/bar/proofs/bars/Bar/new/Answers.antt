@@ -6,4 +6,4 @@ pub returns : goal.returns
 returns c =
     let k = c.args.catalogue.now in
     let t = c.sheets_of-sheets.result in
-    fresh k.bytes.now k.counts k.accepted k.octets t.views t.count c.sheets_of-sheets.ensures.is (omega (arith, t.few, t.long))
+    fresh k.bytes.now k.counts k.accepted k.octets t.views t.count c.none.result.count c.sheets_of-sheets.ensures.is (omega (arith, t.few, t.long)) c.none.ensures
