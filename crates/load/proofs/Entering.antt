@@ -63,8 +63,12 @@ module _ (m : Make) (views : List View) (n : ℕ) (load : is_make Load m ≡ tru
   pub giving_at : (s : ℕ) → s < n → ∥ Giving (shown_at views s).entries ∥₁
   giving_at s h = ∥∥₁_map taken (λ t. giving_taken views n (of_load t) long s h)
 
+-- the tables tell the weights of the first n sheets
+abbrev pub AllTold : List View → List (List (List ℤ)) → ℕ → Type 0
+AllTold views tables n = (s : ℕ) → s < n → TellsAll (shown_at views s).entries (get_or tables s [])
+
 -- one table more
-pub tables_more : (views : List View) (tables : List (List ℤ)) (s : ℕ) (table : List ℤ) → s < length tables → ((t : ℕ) → t < s → TellsAll (shown_at views t).entries (get_or tables t [])) → TellsAll (shown_at views s).entries table → (t : ℕ) → t < s + 1 → TellsAll (shown_at views t).entries (get_or (set tables s table) t [])
+pub tables_more : (views : List View) (tables : List (List (List ℤ))) (s : ℕ) (table : List (List ℤ)) → s < length tables → AllTold views tables s → TellsAll (shown_at views s).entries table → AllTold views (set tables s table) (s + 1)
 tables_more views tables s table h was here =
     below_more
     (λ t. TellsAll (shown_at views t).entries (get_or (set tables s table) t []))

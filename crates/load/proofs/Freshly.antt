@@ -29,13 +29,13 @@ both_and true y z f = f refl
 both_and false y z f = refl
 
 -- what is kept by a table that tells a sheet's weights is what its rule admits
-keeps_rule : (t : Sheet) (table : List ℤ) (l : List ℕ) → Tells table t.weights → keeps (showing t) table l ≡ rule Load t l
+keeps_rule : (t : Sheet) (table : List (List ℤ)) (l : List ℕ) → Tells table t.weights → keeps (showing t) table l ≡ rule Load t l
 unfolding keeps
 keeps_rule t table l tells =
     both_and (is_list (length t.scope) l) (le_z (weigh sums (weighs table) l) t.«cap») (le_z (total_from t.weights 0 l) t.«cap»)
     (λ e. ap (λ z. le_z z t.«cap») (weigh_total table t.weights l tells (and_parts (eqb (length l) (length t.scope)) (all (λ o. ltb o 32) l) e).1))
 
-module _ (views : List View) (n : ℕ) (tables : List (List ℤ)) (t : Taken Load views n) (whole : n ≤ length views) (told : (s : ℕ) → s < n → TellsAll (shown_at views s).entries (get_or tables s [])) where
+module _ (views : List View) (n : ℕ) (tables : List (List (List ℤ))) (t : Taken Load views n) (whole : n ≤ length views) (told : (s : ℕ) → s < n → TellsAll (shown_at views s).entries (get_or tables s [])) where
   scopes : (s : ℕ) → (loading views n tables 0).scope s ≡ scope_at t.sheets s
   scopes s =
       ⊎_elim
@@ -61,7 +61,7 @@ module _ (views : List View) (n : ℕ) (tables : List (List ℤ)) (t : Taken Loa
   fresh_taken : Fresh t.sheets (loading views n tables 0)
   fresh_taken = record { count = sym (sheets_long Load views n t whole); scope = scopes; kept = rules; marks = refl }
 
-pub fresh : (bs : List ℕ) (c : Counts) → accepts bs c ≡ true → Octets bs → (views : List View) (n : ℕ) (tables : List (List ℤ)) → shown_in views n ≡ map showing (sheets_in (content bs) Load) → n ≤ length views → ((s : ℕ) → s < n → TellsAll (shown_at views s).entries (get_or tables s [])) → Fresh (sheets_in (content bs) Load) (loading views n tables 0)
+pub fresh : (bs : List ℕ) (c : Counts) → accepts bs c ≡ true → Octets bs → (views : List View) (n : ℕ) (tables : List (List (List ℤ))) → shown_in views n ≡ map showing (sheets_in (content bs) Load) → n ≤ length views → ((s : ℕ) → s < n → TellsAll (shown_at views s).entries (get_or tables s [])) → Fresh (sheets_in (content bs) Load) (loading views n tables 0)
 fresh bs c a o views n tables e whole told =
     subst
     (λ (ts : List Sheet). Fresh ts (loading views n tables 0))

@@ -64,7 +64,7 @@ module _ {W : Type 0} (J : Joining W) where
       (here.at ∷ t.0, picked_cons P (length ms) here.at t.0 here.allowed t.1, ap₂ J.join here.is t.2, t.3)
 
   -- one weight, and the others
-  total_set : (ms : List W) (p : ℕ) (x : W) → p < length ms → total J (set ms p x) ≡ J.join x (total J (set ms p J.none))
+  pub total_set : (ms : List W) (p : ℕ) (x : W) → p < length ms → total J (set ms p x) ≡ J.join x (total J (set ms p J.none))
   total_set [] p x h = absurd (omega arith)
   total_set (m ∷ ms) zero x h = ap (J.join x) (sym (J.neutral (total J ms)))
   total_set (m ∷ ms) (suc p) x h =

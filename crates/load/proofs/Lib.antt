@@ -1,5 +1,4 @@
 pub mod Joining
-pub mod Signs
 pub mod Lowest
 pub mod Rest
 pub mod Bitwise
@@ -7,5 +6,6 @@ pub mod Masking
 pub mod Supporting
 pub mod Showing
 pub mod Weighing
+pub mod Tables
 pub mod Entering
 pub mod Freshly

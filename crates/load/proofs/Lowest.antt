@@ -1,97 +1,121 @@
--- The least weight, option by option and position by position. Assumes nothing.
-use Rattle.std.proofs.Common.{◌≡◌, ℕ, ◌+◌, ◌<◌, ◌⊎◌, List, length, get_or, set, ℤ, pos, ◌≤ℤ◌, Some, None, Option, sym, ◌∙◌, subst, inl, inr, ⊎_elim, arith, get_or-set_other, get_or-set_same, below_more}
-use Rattle.std.proofs.lemmas.Bool.{cases_eq}
+-- The least weight of the options of a cell, and those at each position. Assumes nothing.
+use Rattle.std.proofs.Common.{◌≡◌, ℕ, zero, suc, ◌+◌, ◌<◌, true, false, List, [], ◌∷◌, length, map, get_or, set, ℤ, pos, ◌≤ℤ◌, ◌<ℤ◌, Some, None, Option, Less, Equal, Greater, Ordering, sym, refl, ◌∙◌, ap, subst, ⊎_elim, arith, get_or-set_other, get_or-set_same, below_more}
+use Rattle.std.specs.Prelude.{MatchOption, IfSome, IsSomeAnd}
+use Rattle.std.specs.Option.{option_map}
+use Rattle.std.specs.Ordering.{int_cmp, is_lt, MatchOrdering}
+use Rattle.std.specs.Iterator.{Yields}
+use Rattle.std.specs.Iterator.Runs.{Run, YieldsRun, AnyItem, AllItems}
+use Rattle.std.proofs.lemmas.Bool.{cases_eq, false≢true}
+use Rattle.std.proofs.lemmas.Cmp.{int_ranked}
+use Rattle.std.proofs.lemmas.Int.{ints}
+use Rattle.std.proofs.lemmas.Option.{IfSome_then}
+use Rattle.std.proofs.lemmas.List.{get_or-map, length-map}
 use Rattle.boxes.specs.Boxes.{Open, Bit}
-use Rattle.load.specs.Sums.{sums, either_way}
-use Rattle.load.specs.Weights.{weighs, OpenIn, cell_at, Highest, Small, Lowest, LowestOf, LowestAt, Lesser}
-use Rattle.load.proofs.Bitwise.{without, top_bit, top_gone, without_from, without_still, no_bit}
-
--- Q allows what P does, and n
-module _ (P Q : ℕ → Type 0) (n : ℕ) (f : ℕ → ℤ) (into : (o : ℕ) → P o → Q o) (here : Q n) (split : (o : ℕ) → Q o → (o ≡ n) ⊎ P o) where
-  -- n itself is the least
-  newest : (m : ℤ) → Small (f n) → m ≡ f n → ((o : ℕ) → P o → f n ≤ℤ f o) → Lowest Q f m
-  newest m sm e all =
-      let under : (o : ℕ) → Q o → f n ≤ℤ f o = λ o k. ⊎_elim (λ g. subst (λ (u : ℕ). f n ≤ℤ f u) (sym g) (sums.self (f n))) (all o) (split o k) in
-      record {
-        small = subst Small (sym e) sm;
-        least = record { at = n; allowed = here; is = sym e; least = λ o k. subst (λ (z : ℤ). z ≤ℤ f o) (sym e) (under o k) };
-      }
-
-  -- the least so far stays
-  stays : (k m : ℤ) → k ≤ℤ f n → m ≡ k → Lowest P f k → Lowest Q f m
-  stays k m le e was =
-      let l = was.least in
-      let under : (o : ℕ) → Q o → k ≤ℤ f o = λ o j. ⊎_elim (λ i. subst (λ (u : ℕ). k ≤ℤ f u) (sym i) le) (l.least o) (split o j) in
-      record {
-        small = subst Small (sym e) was.small;
-        least = record { at = l.at; allowed = into l.at l.allowed; is = l.is ∙ sym e; least = λ o j. subst (λ (z : ℤ). z ≤ℤ f o) (sym e) (under o j) };
-      }
-
-  lowest_take : (r : Option ℤ) (m : ℤ) → Small (f n) → Lesser r (f n) m → LowestOf P f r → Lowest Q f m
-  lowest_take None m sm e was = newest m sm e (λ o k. absurd (was o k))
-  lowest_take (Some k) m sm e was =
-      ⊎_elim
-      (λ le. stays k m le (e.0 le) was)
-      (λ ge. newest m sm (e.1 ge) (λ o j. sums.chain (f n) k (f o) ge (was.least.least o j)))
-      (either_way k (f n))
-
--- what both allow alike has the same least
-lowest_like : (P Q : ℕ → Type 0) (f : ℕ → ℤ) (r : Option ℤ) → ((o : ℕ) → P o → Q o) → ((o : ℕ) → Q o → P o) → LowestOf P f r → LowestOf Q f r
-lowest_like P Q f None into back was = λ o k. was o (back o k)
-lowest_like P Q f (Some m) into back was =
-    let l = was.least in
-    record {
-      small = was.small;
-      least = record { at = l.at; allowed = into l.at l.allowed; is = l.is; least = λ o k. l.least o (back o k) };
-    }
+use Rattle.load.specs.Weights.{weighs, OpenIn, cell_at, PeelsOff, Small, Lowest, LowestOf, LowestAt}
+use Rattle.load.proofs.Bitwise.{top_bit, was_there, is_left, no_bit}
 
 -- what is open has its bit, and the other way
 pub bit_open : (cell o : ℕ) → OpenIn cell o → Bit cell o
 unfolding Open Bit
 bit_open cell o h = h.1
 
+pub open_small : (cell o : ℕ) → OpenIn cell o → o < 32
+unfolding Open
+open_small cell o h = h.0
+
 pub open_bit : (cell o : ℕ) → o < 32 → Bit cell o → OpenIn cell o
 unfolding Open Bit
 open_bit cell o l h = (l, h)
 
--- option o is open, and no more among those that are left
-pub record Seen (cell left o : ℕ) : Type 0 where
-  pub is_open : OpenIn cell o
-  pub gone : Bit left o → ⊥
+-- these are the open options of a cell
+pub record Listed (cell : ℕ) (options : List ℕ) : Type 0 where
+  pub each : (k : ℕ) → k < length options → OpenIn cell (get_or options k 0)
+  pub all : (o : ℕ) → OpenIn cell o → (k : ℕ) × (k < length options) × (get_or options k 0 ≡ o)
 
--- of the options of a cell, the least weight of those that are not left
-pub record LeastSoFar (cell left : ℕ) (f : ℕ → ℤ) (r : Option ℤ) : Type 0 where
-  pub within : (o : ℕ) → Bit left o → Bit cell o
-  pub lowest : LowestOf (Seen cell left) f r
+-- calls that peel off one option after another, until none is left, give them all
+module _ {S : Type 0} (left : S → ℕ) where
+  abbrev pub peels : S → Option ℕ → S → Type 0
+  peels s r t = PeelsOff (left s) r (left t)
 
-module _ (cell : ℕ) (f : ℕ → ℤ) where
-  pub least_start : LeastSoFar cell cell f None
-  least_start = record { within = λ o b. b; lowest = λ o k. k.gone (bit_open cell o k.is_open) }
+  pub listed : (s t u : S) (options : List ℕ) → Yields peels s options t → peels t None u → Listed (left s) options
+  listed s t u [] y e =
+      let none : left s ≡ 0 = ap left y ∙ e.0 in
+      record { each = λ k h. absurd (omega arith); all = λ o h. absurd (no_bit o (subst (λ n. Bit n o) none (bit_open (left s) o h))) }
+  listed s t u (o ∷ options) y e =
+      let (j, step, more) = y in
+      let rest = listed j t u options more e in
+      record {
+        each = λ k h. elim k as (λ i. i < suc (length options) → OpenIn (left s) (get_or (o ∷ options) i 0)) [
+          | zero ↦ λ h. open_bit (left s) o step.highest.small (top_bit (left s) o (left j) step)
+          | suc i ↦ λ h. let was = rest.each i (omega arith) in open_bit (left s) (get_or options i 0) (open_small (left j) (get_or options i 0) was) (was_there (left s) o (left j) step (get_or options i 0) (bit_open (left j) (get_or options i 0) was))
+        ] h;
+        all = λ p h. ⊎_elim
+            (λ (same : p ≡ o). (0, omega arith, sym same))
+            (λ (ne : p ≡ o → ⊥). let (k, lt, is) = rest.all p (open_bit (left j) p (open_small (left s) p h) (is_left (left s) o (left j) step p ne (bit_open (left s) p h))) in (suc k, omega arith, is))
+            (cases_eq p o);
+      }
 
-  pub least_all : (left : ℕ) (r : Option ℤ) → left ≡ 0 → LeastSoFar cell left f r → LowestOf (OpenIn cell) f r
-  least_all left r e was =
-      lowest_like (Seen cell left) (OpenIn cell) f r (λ o k. k.is_open)
-      (λ o k. record { is_open = k; gone = λ b. no_bit o (subst (λ (n : ℕ). Bit n o) e b) })
-      was.lowest
+some_one : {A : Type 0} (o : Option A) (P : A → Type 0) → IsSomeAnd o P → (x : A) × P x
+some_one None P h = absurd h
+some_one (Some x) P h = (x, h)
 
-  module _ (left n : ℕ) (h : Highest left n) where
-    -- the next option, the highest of those that are left, is open
-    pub open_next : (r : Option ℤ) → LeastSoFar cell left f r → OpenIn cell n
-    open_next r was = open_bit cell n h.small (was.within n (top_bit left n h))
+module _ {S A : Type 0} {steps : S → Option A → S → Type 0} (p : Run steps) where
+  -- what holds of the item at a place holds of that of the list, and the other way
+  item_of : (k : ℕ) (d : A) (P : A → Type 0) → k < p.len → IfSome (p.at k) P → P (get_or p.items k d)
+  item_of k d P h = go (p.at k) (p.reads k d h)
+    where
+      go : (o : Option A) → option_map (λ y. y) o ≡ Some (get_or p.items k d) → IfSome o P → P (get_or p.items k d)
+      go None e f = cc
+      go (Some x) e f = let same : x ≡ get_or p.items k d = cc in subst P same f
 
-    pub least_next : (r : Option ℤ) (m : ℤ) → Small (f n) → Lesser r (f n) m → LeastSoFar cell left f r → LeastSoFar cell (without left n) f (Some m)
-    least_next r m sm e was =
-        record {
-          within = λ o b. was.within o (without_from left n h o b);
-          lowest = lowest_take (Seen cell left) (Seen cell (without left n)) n f
-              (λ o k. record { is_open = k.is_open; gone = λ b. k.gone (without_from left n h o b) })
-              (record { is_open = open_next r was; gone = top_gone left n h })
-              (λ o k. ⊎_elim (λ i. inl i) (λ ne. inr (record { is_open = k.is_open; gone = λ b. k.gone (without_still left n h o ne b) })) (cases_eq o n))
-              r m sm e was.lowest;
-        }
+  some_of : (k : ℕ) (d : A) (P : A → Type 0) → k < p.len → IsSomeAnd (p.at k) P → P (get_or p.items k d)
+  some_of k d P h = go (p.at k) (p.reads k d h)
+    where
+      go : (o : Option A) → option_map (λ y. y) o ≡ Some (get_or p.items k d) → IsSomeAnd o P → P (get_or p.items k d)
+      go None e f = absurd f
+      go (Some x) e f = let same : x ≡ get_or p.items k d = cc in subst P same f
+
+  -- what holds of both items at a place, of a run and of the one that it was made from
+  pub each_of : {T B : Type 0} {source : T → Option B → T → Type 0} (q : Run source) (R : A → B → Type 0) (P : A → Type 0) → ((x : A) (y : B) → R x y → P x) → ((k : ℕ) → IfSome (p.at k) (λ x. IsSomeAnd (q.at k) (R x))) → AllItems p P
+  each_of q R P then each k = IfSome_then (p.at k) (each k) (λ x h. let (y, r) = some_one (q.at k) (R x) h in then x y r)
+
+  -- the calls of a whole run
+  pub run_of : p.whole ≡ true → (t : S) × Yields steps p.from p.items t × ((u : S) × steps t None u)
+  unfolding YieldsRun
+  run_of e = let (t, gave, ended) = p.gave.0 in (t, gave, ended e)
+
+not_less : (x m : ℤ) → is_lt (int_cmp x m) ≡ false → m ≤ℤ x
+not_less x m = go (int_cmp x m) (int_ranked x m (int_cmp x m) refl)
+  where
+    go : (o : Ordering) → MatchOrdering o (x <ℤ m) (x ≡ m) (m <ℤ x) → is_lt o ≡ false → m ≤ℤ x
+    go Less h e = absurd (false≢true (sym e))
+    go Equal h e = omega (arith, ints)
+    go Greater h e = omega (arith, ints)
+
+-- the answer of `min` on the weights of the options of a cell
+module _ {S : Type 0} {steps : S → Option ℤ → S → Type 0} (p : Run steps) (cell : ℕ) (f : ℕ → ℤ) (options : List ℕ) (is : p.items ≡ map f options) (listed : Listed cell options) (small : AllItems p Small) where
+  as_many : p.len ≡ length options
+  as_many = p.long ∙ ap length is ∙ simp length-map
+
+  weight_at : (k : ℕ) → k < p.len → get_or p.items k (pos 0) ≡ f (get_or options k 0)
+  weight_at k h = ap (λ l. get_or l k (pos 0)) is ∙ get_or-map f options k 0 (pos 0) (omega (arith, as_many))
+
+  pub lowest_of : (r : Option ℤ) → MatchOption r (p.len ≡ 0) (λ m. AnyItem p (λ x. x ≡ m) × AllItems p (λ x. is_lt (int_cmp x m) ≡ false)) → LowestOf (OpenIn cell) f r
+  lowest_of None none = λ o h. let (k, lt, e) = listed.all o h in absurd (omega (arith, as_many))
+  lowest_of (Some m) answer =
+      let (k, lt, here) = answer.0 in
+      let e : f (get_or options k 0) ≡ m = sym (weight_at k lt) ∙ some_of p k (pos 0) (λ x. x ≡ m) lt here in
+      let under : (o : ℕ) → OpenIn cell o → m ≤ℤ f o = λ o h.
+      let (j, there, same) = listed.all o h in
+      let less : j < p.len = omega (arith, as_many) in
+      subst (λ z. m ≤ℤ z) (weight_at j less ∙ ap f same) (not_less (get_or p.items j (pos 0)) m (item_of p j (pos 0) (λ x. is_lt (int_cmp x m) ≡ false) less (answer.1 j))) in
+      record {
+        small = subst Small (some_of p k (pos 0) (λ x. x ≡ m) lt here) (item_of p k (pos 0) Small lt (small k));
+        least = record { at = get_or options k 0; allowed = listed.each k (omega (arith, as_many)); is = e; least = under };
+      }
 
 -- the least weights, position by position
-pub leasts_more : (b scope : List ℕ) (table ms : List ℤ) (n : ℕ) (m : ℤ) → n < length ms → LowestAt b scope table n ms → Lowest (OpenIn (cell_at b scope n)) (weighs table n) m → LowestAt b scope table (n + 1) (set ms n m)
+pub leasts_more : (b scope : List ℕ) (table : List (List ℤ)) (ms : List ℤ) (n : ℕ) (m : ℤ) → n < length ms → LowestAt b scope table n ms → Lowest (OpenIn (cell_at b scope n)) (weighs table n) m → LowestAt b scope table (n + 1) (set ms n m)
 leasts_more b scope table ms n m h was here =
     below_more
     (λ p. Lowest (OpenIn (cell_at b scope p)) (weighs table p) (get_or (set ms n m) p (pos 0)))

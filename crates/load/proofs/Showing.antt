@@ -1,6 +1,7 @@
 -- What a load sheet does to a box that it is shown, in the words of a binder. Assumes nothing.
-use Rattle.std.proofs.Common.{◌≡◌, ℕ, suc, ◌<◌, Bool, true, ◌&&◌, T, eqb, ltb, List, [], ◌∷◌, length, get_or, ℤ, ◌≤ℤ◌, sym, refl, ap, ◌∙◌, subst, arith}
+use Rattle.std.proofs.Common.{◌≡◌, ℕ, suc, ◌<◌, Bool, true, ◌&&◌, T, eqb, ltb, List, [], ◌∷◌, length, get_or, ℤ, ◌≤ℤ◌, Decides, sym, refl, ap, ◌∙◌, subst, arith}
 use lib.Signed.{le_z}
+use Rattle.std.proofs.lemmas.Int.{ints}
 use Rattle.std.proofs.lemmas.Bool.{lt-ltb, eq-eqb, and_parts, and_from}
 use Rattle.catalogue.specs.declared.view.View.{View}
 use Rattle.catalogue.specs.Checks.{all}
@@ -12,12 +13,15 @@ use Rattle.sheets.specs.Closing.{Narrowed, shorter}
 use Rattle.sheets.specs.Tables.{shown_at}
 use Rattle.sheets.specs.Rules.{is_list}
 use Rattle.sheets.proofs.Narrowing.{BoxShown, shown_by_masks}
+use Rattle.sheets.proofs.Scopes.{GoodScope}
 use Rattle.load.specs.Joins.{weigh}
 use Rattle.load.specs.Sums.{sums}
 use Rattle.load.specs.Weights.{weighs, Supported, Supports}
 use Rattle.load.specs.Loads.{keeps, loading}
-use Rattle.load.specs.Sound.{Scoped, scope_there, is_true}
-use Rattle.load.proofs.Signs.{decides_le}
+use Rattle.load.specs.Sound.{scope_there, is_true}
+
+decides_le : (a b : ℤ) → Decides (le_z a b) (a ≤ℤ b)
+decides_le a b = (λ e. grind (arith, ints), λ h. grind (arith, ints))
 
 low_all : (l : List ℕ) → ((p : ℕ) → p < length l → get_or l p 0 < 32) → all (λ o. ltb o 32) l ≡ true
 low_all [] f = refl
@@ -31,7 +35,7 @@ fits_list b scope l f =
     and_from (eqb (length l) (length scope)) (all (λ o. ltb o 32) l) (eq-eqb (length l) (length scope) long)
     (low_all l (λ p h. open_low b (get_or scope p 0) (get_or l p 0) (f.each p (omega arith))))
 
-module _ (v : Shown) (table : List ℤ) (l : List ℕ) where
+module _ (v : Shown) (table : List (List ℤ)) (l : List ℕ) where
   keeps_from : is_list (length v.scope) l ≡ true → weigh sums (weighs table) l ≤ℤ v.«cap» → keeps v table l ≡ true
   unfolding keeps
   keeps_from e h = and_from (is_list (length v.scope) l) (le_z (weigh sums (weighs table) l) v.«cap») e ((decides_le (weigh sums (weighs table) l) v.«cap»).1 h)
@@ -43,7 +47,7 @@ module _ (v : Shown) (table : List ℤ) (l : List ℕ) where
 true_is : (b : Bool) → b ≡ true → T b
 true_is b e = subst T (sym e) tt
 
-module _ (views : List View) (n : ℕ) (tables : List (List ℤ)) (marks s : ℕ) (there : s < n) (scoped : Scoped (shown_at views s).scope) (b c masks : List ℕ) where
+module _ (views : List View) (n : ℕ) (tables : List (List (List ℤ))) (marks s : ℕ) (there : s < n) (good : GoodScope (shown_at views s).scope) (b c masks : List ℕ) where
   same : (loading views n tables marks).scope s ≡ (shown_at views s).scope
   same = scope_there views n tables marks s there
 
@@ -67,13 +71,13 @@ module _ (views : List View) (n : ℕ) (tables : List (List ℤ)) (marks s : ℕ
   box_shown : Supports (get_or tables s []) (shown_at views s).«cap» ((loading views n tables marks).scope s) b masks → Narrowed b c ((loading views n tables marks).scope s) masks (length ((loading views n tables marks).scope s)) → BoxShown (loading views n tables marks) s b c
   box_shown k h =
       shown_by_masks (loading views n tables marks) s b c masks
-      (subst Scoped (sym same) scoped).apart
+      (subst GoodScope (sym same) good).apart
       (record { sound = λ p o l is_open bit. held_from p o (k.sound p o l bit); complete = λ p o l held. k.complete p o l (from_held p o held) })
       h
 
   -- as many positions as the scope has
   all_positions : length masks ≡ 8 → shorter (shown_at views s).scope masks ≡ length (shown_at views s).scope
-  all_positions long = let short = scoped.short in omega arith
+  all_positions long = let short = good.short in omega arith
 
   pub shown : Supports (get_or tables s []) (shown_at views s).«cap» (shown_at views s).scope b masks → Narrowed b c (shown_at views s).scope masks (shorter (shown_at views s).scope masks) → ShownBox (loading views n tables marks) (loading views n tables marks) s b c
   shown k h =

@@ -28,9 +28,9 @@ pub record Giving (entries : List ℕ) : Type 0 where
   pub gives : Gives entries weights
 
 -- by the table each option weighs what the weights say
-pub record Tells (table : List ℤ) (ws : List Weight) : Type 0 where
+pub record Tells (table : List (List ℤ)) (ws : List Weight) : Type 0 where
   pub is : (p o : ℕ) → o < 32 → weighs table p o ≡ weight_in ws p o
 
 -- whichever weights the entries are, the table tells them
-abbrev pub TellsAll : List ℕ → List ℤ → Type 0
+abbrev pub TellsAll : List ℕ → List (List ℤ) → Type 0
 TellsAll entries table = (ws : List Weight) → Gives entries ws → Tells table ws

@@ -10,12 +10,12 @@ use Rattle.load.specs.Sums.{sums}
 use Rattle.load.specs.Weights.{weighs}
 
 -- a list has an option for each slot of the scope, and by the table it weighs at most the cap
-unfoldable pub keeps : Shown → List ℤ → List ℕ → Bool
+unfoldable pub keeps : Shown → List (List ℤ) → List ℕ → Bool
 keeps v table l = is_list (length v.scope) l && int_le (weigh sums (weighs table) l) v.«cap»
 
 -- The sheets are the first n views, each with its table. What a sheet keeps never changes, so it kept the same
 -- at each mark.
-abbrev pub loading : List View → ℕ → List (List ℤ) → ℕ → Binding
+abbrev pub loading : List View → ℕ → List (List (List ℤ)) → ℕ → Binding
 loading views n tables marks =
     record {
       count = n;

@@ -1,9 +1,6 @@
 -- That load sheets of a sound catalogue are a proper binder. Assumes nothing.
-use Rattle.std.specs.Prelude.{◌≡◌, ℕ, zero, suc, ◌<◌, ◌≤◌, Bool, true, false, ◌&&◌, T, ltb, List, [], ◌∷◌, length, ℤ, ◌==◌, ◌≢◌, int_le, nat_lt, slice_index, slice_index_or, refl}
+use Rattle.std.specs.Prelude.{◌≡◌, ℕ, zero, suc, ◌<◌, ◌≤◌, Bool, true, false, ◌&&◌, T, ltb, List, [], ◌∷◌, length, ℤ, ◌==◌, int_le, nat_lt, slice_index, slice_index_or, refl}
 use Rattle.std.proofs.Common.{sym, subst, arith}
-use Rattle.std.proofs.Math.Logic.{∥∥₁_elim}
-use mathlib.Core.HLevel.{⊥_prop}
-use Rattle.std.proofs.Math.Bridge.{le_prop}
 use Rattle.std.proofs.lemmas.Bool.{lt-ltb, and_parts, eqb-true, ltb-true, cond-true}
 use Rattle.catalogue.specs.declared.make.Make.{Make}
 use Rattle.catalogue.specs.declared.view.View.{View}
@@ -12,47 +9,11 @@ use Rattle.catalogue.specs.Views.{Shown}
 use Rattle.binder.specs.Meaning.{Listed, Proper}
 use Rattle.sheets.specs.Tables.{Taken, shown_at}
 use Rattle.sheets.specs.Rules.{is_list}
-use Rattle.sheets.proofs.Tabled.{at}
-use Rattle.sheets.proofs.Scopes.{scope_low, scope_apart}
+use Rattle.sheets.proofs.Scopes.{GoodScope, scope_at}
 use Rattle.load.specs.Joins.{weigh}
 use Rattle.load.specs.Sums.{sums}
 use Rattle.load.specs.Weights.{weighs}
 use Rattle.load.specs.Loads.{keeps, loading}
-
--- a scope has one to eight different slots below 48
-pub record Scoped (scope : List ℕ) : Type 0 where
-  pub some : 1 ≤ length scope
-  pub short : length scope ≤ 8
-  pub slots : (p : ℕ) → p < length scope → slice_index scope p < 48
-  pub apart : (p q : ℕ) → p < q → q < length scope → slice_index scope p ≢ slice_index scope q
-
-scoped_taken : (m : Make) (views : List View) (n : ℕ) (t : Taken m views n) (s : ℕ) → s < n → n ≤ length views → Scoped (shown_at views s).scope
-scoped_taken m views n t s l h =
-    let a = at m views n t s l h in
-    let g = a.good in
-    subst
-    (λ (v : Shown). Scoped v.scope)
-    (sym a.shows)
-    (record {
-      some = g.some;
-      short = g.few;
-      slots = scope_low t.options a.sheet g t.slots;
-      apart = scope_apart t.options a.sheet g;
-    })
-
--- the views are of some sound catalogue, though it is not said of which
-module _ (m : Make) (views : List View) (n : ℕ) (taken : ∥ Taken m views n ∥₁) (long : n ≤ length views) (s : ℕ) (there : s < n) where
-  sure : {P : Type 0} → IsProp P → (Scoped (shown_at views s).scope → P) → P
-  sure prop f = ∥∥₁_elim taken prop (λ t. f (scoped_taken m views n t s there long))
-
-  pub scoped_at : Scoped (shown_at views s).scope
-  scoped_at =
-      record {
-        some = sure le_prop (λ k. k.some);
-        short = sure le_prop (λ k. k.short);
-        slots = λ p h. sure le_prop (λ k. k.slots p h);
-        apart = λ p q h j e. sure ⊥_prop (λ k. k.apart p q h j e);
-      }
 
 all_low : (l : List ℕ) → all (λ o. ltb o 32) l ≡ true → (p : ℕ) → p < length l → slice_index l p < 32
 all_low [] e p h = absurd (omega arith)
@@ -60,7 +21,7 @@ all_low (o ∷ l) e zero h = ltb-true o 32 (and_parts (nat_lt o 32) (all (λ o. 
 all_low (o ∷ l) e (suc p) h = all_low l (and_parts (nat_lt o 32) (all (λ o. ltb o 32) l) e).1 p (omega arith)
 
 -- what a sheet keeps is a list of its scope
-keeps_listed : (v : Shown) (table : List ℤ) (l : List ℕ) → keeps v table l ≡ true → Listed v.scope l
+keeps_listed : (v : Shown) (table : List (List ℤ)) (l : List ℕ) → keeps v table l ≡ true → Listed v.scope l
 unfolding keeps
 keeps_listed v table l e =
     let k = (and_parts (is_list (length v.scope) l) (int_le (weigh sums (weighs table) l) v.«cap») e).0 in
@@ -72,7 +33,7 @@ pub is_true : (b : Bool) → T b → b ≡ true
 is_true true t = refl
 is_true false t = absurd t
 
-module _ (views : List View) (n : ℕ) (tables : List (List ℤ)) (marks : ℕ) where
+module _ (views : List View) (n : ℕ) (tables : List (List (List ℤ))) (marks : ℕ) where
   -- the scope of a sheet that is there
   pub scope_there : (s : ℕ) → s < n → (loading views n tables marks).scope s ≡ (shown_at views s).scope
   scope_there s l = cond-true (nat_lt s n) (shown_at views s).scope [] (lt-ltb s n l)
@@ -88,14 +49,14 @@ module _ (views : List View) (n : ℕ) (tables : List (List ℤ)) (marks : ℕ) 
 
   pub loading_proper : (m : Make) → ∥ Taken m views n ∥₁ → n ≤ length views → n ≤ 8 → marks ≤ 72 → Proper (loading views n tables marks)
   loading_proper m taken long few low =
-      let scoped : (s : ℕ) → s < n → Scoped ((loading views n tables marks).scope s) = λ s l. subst Scoped (sym (scope_there s l)) (scoped_at m views n taken long s l) in
+      let good : (s : ℕ) → s < n → GoodScope ((loading views n tables marks).scope s) = λ s l. subst GoodScope (sym (scope_there s l)) (scope_at m views n taken long s l) in
       record {
         few = omega arith;
         low = low;
-        some = λ s l. (scoped s l).some;
-        short = λ s l. (scoped s l).short;
-        slots = λ s p l. (scoped s l).slots p;
-        apart = λ s p q l. (scoped s l).apart p q;
+        some = λ s l. (good s l).some;
+        short = λ s l. (good s l).short;
+        slots = λ s p l. (good s l).covered p;
+        apart = λ s p q l. (good s l).apart p q;
         listed = kept_listed;
         listed_then = λ i. kept_listed;
       }

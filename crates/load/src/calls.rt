@@ -6,22 +6,19 @@ ghost use Rattle.catalogue.specs.declared.make.Make.TheVariants.{Load as LoadMak
 ghost use Rattle.catalogue.specs.Verdict.{content};
 ghost use Rattle.sheets.specs.Rules.{Fresh};
 ghost use Rattle.sheets.specs.Tables.{sheets_in};
-ghost use Rattle.load.specs.Weights.{Supports};
-ghost use Rattle.load.specs.Calls.{shown_of, table_of, meaning_of, proper_of};
+ghost use Rattle.load.specs.Calls.{meaning_of, proper_of};
 
 use crate::Load;
 use crate::masks::supported;
 use crate::weights::tables_of;
 use binder::binders::Binder;
+use binder::marks::Marks;
 use binder::refusal::Refusal;
 use boxes::OptionBox;
 use catalogue::checked::Catalogue;
 use catalogue::make::Make;
 use sheets::closing::keep_only;
 use sheets::taking::sheets_of;
-
-// As many marks can stand.
-const MARKS: usize = 72;
 
 impl<'a> Load<'a> {
     // The load sheets of a checked catalogue, with no mark.
@@ -33,18 +30,8 @@ impl<'a> Load<'a> {
         Load {
             sheets,
             weights,
-            marks: 0,
+            marks: Marks::none(),
         }
-    }
-
-    // The supported options of a sheet.
-    fn support(&self, sheet: usize, slate: &OptionBox) -> [u32; 8]
-        requires { sheet < self.now.sheets.count }
-        ensures { Supports (table_of self.now sheet) (shown_of self.now sheet).«cap» (shown_of self.now sheet).scope slate.now.cells result }
-    {
-        let view = self.sheets.view(sheet);
-        let tables = &self.weights;
-        supported(&tables[sheet], view.cap, view.scope, slate)
     }
 }
 
@@ -58,26 +45,15 @@ impl<'a> Binder for Load<'a> {
     }
 
     fn marks(&self) -> usize {
-        self.marks
+        self.marks.count
     }
 
     fn arity(&self, sheet: usize) -> Result<usize, Refusal> {
-        if sheet >= self.sheets.count {
-            return Err(Refusal::NotThere);
-        }
-        let view = self.sheets.view(sheet);
-        Ok(view.scope.len())
+        self.sheets.arity(sheet)
     }
 
     fn slot_at(&self, sheet: usize, position: usize) -> Result<usize, Refusal> {
-        if sheet >= self.sheets.count {
-            return Err(Refusal::NotThere);
-        }
-        let view = self.sheets.view(sheet);
-        if position >= view.scope.len() {
-            return Err(Refusal::NotThere);
-        }
-        Ok(view.scope[position] as usize)
+        self.sheets.slot_at(sheet, position)
     }
 
     // Closes what no light enough list holds. The binder itself stays as it is, so each sheet goes on keeping
@@ -87,28 +63,18 @@ impl<'a> Binder for Load<'a> {
             (λ e. (e ≡ NotThere) × ((meaning_of self.old).count ≤ sheet) × (self.new ≡ self.old) × (slate.new ≡ slate.old)) }
         ensures stays { self.new ≡ self.old }
     {
-        if sheet >= self.sheets.count {
-            return Err(Refusal::NotThere);
-        }
-        let masks = self.support(sheet, slate);
-        let view = self.sheets.view(sheet);
-        keep_only(slate, view.scope, &masks);
+        let taken = self.sheets.sheet(sheet)?;
+        let tables = &self.weights;
+        let masks = supported(&tables[sheet], &taken, slate);
+        keep_only(slate, taken.scope.slots, &masks);
         Ok(())
     }
 
     fn mark(&mut self) -> Result<(), Refusal> {
-        if self.marks >= MARKS {
-            return Err(Refusal::TooManyMarks);
-        }
-        self.marks += 1;
-        Ok(())
+        self.marks.add()
     }
 
     fn undo(&mut self) -> Result<(), Refusal> {
-        if self.marks == 0 {
-            return Err(Refusal::NoMark);
-        }
-        self.marks -= 1;
-        Ok(())
+        self.marks.drop_newest()
     }
 }

@@ -1,47 +1,39 @@
 // The weights of load sheets, read once from their entries into tables.
-ghost use Rattle.std.specs.Prelude.{◌≡◌, ℕ, ◌+◌, ◌*◌, ◌<◌, true, [], length, slice_index_or};
+ghost use Rattle.std.specs.Prelude.{◌≡◌, ℕ, ◌<◌, true, [], slice_index_or};
 ghost use Rattle.catalogue.specs.declared.make.Make.TheVariants.{Load as LoadMake};
 ghost use Rattle.catalogue.specs.Views.{is_make};
 ghost use Rattle.sheets.specs.Tables.{shown_at};
-ghost use Rattle.load.specs.Given.{amount_at, Giving, TellsAll};
+ghost use Rattle.load.specs.Given.{Giving, TellsAll};
+ghost use Rattle.load.specs.Tables.{weights_in, tables_in};
 
+use crate::table::{Table, Weights};
 use sheets::table::Sheets;
 
-// The amount of weight i: the last two of its five bytes.
-fn amount_at(entries: &[u8], i: usize) -> i16
-    requires { 5 * i + 4 < length entries.now }
-    ensures { result ≡ amount_at entries.now i }
-{
-    i16::from_le_bytes([entries[5 * i + 3], entries[5 * i + 4]])
-}
-
-// The table of some entries, from the last weight to the first.
-fn table_of(entries: &[u8]) -> [i16; 256]
+// The table of some entries, from the last weight to the first, so that of two for one option the first stands.
+fn table_of(entries: &[u8]) -> Table
     requires { ∥ Giving entries.now ∥₁ }
-    ensures { TellsAll entries.now result }
+    ensures { TellsAll entries.now (weights_in result) }
 {
-    let mut table = [0; 256];
-    let mut i = entries.len() / 5;
-    'weights: while i > 0 {
-        i -= 1;
-        let position = entries[5 * i + 1] as usize;
-        let option = entries[5 * i + 2] as usize;
-        table[position * 32 + option] = amount_at(entries, i);
+    let none = Weights { amounts: [0; 32] };
+    let mut weights = [none; 8];
+    'entries: for entry in entries.rchunks_exact(5) {
+        let position = entry[1] as usize;
+        let option = entry[2] as usize;
+        weights[position].amounts[option] = i16::from_le_bytes([entry[3], entry[4]]);
     }
-    table
+    Table { weights }
 }
 
 // The tables of all sheets.
-pub(crate) fn tables_of(sheets: &Sheets) -> [[i16; 256]; 8]
+pub(crate) fn tables_of(sheets: &Sheets) -> [Table; 8]
     requires { is_make LoadMake sheets.now.make ≡ true }
-    ensures { (s : ℕ) → s < sheets.now.count → TellsAll (shown_at sheets.now.views s).entries (slice_index_or result s []) }
+    ensures { (s : ℕ) → s < sheets.now.count → TellsAll (shown_at sheets.now.views s).entries (slice_index_or (tables_in result) s []) }
 {
-    let mut tables = [[0; 256]; 8];
-    let mut s = 0;
-    'sheets: while s < sheets.count {
-        let view = sheets.view(s);
-        tables[s] = table_of(view.entries);
-        s += 1;
+    let none = Weights { amounts: [0; 32] };
+    let empty = Table { weights: [none; 8] };
+    let mut tables = [empty; 8];
+    'sheets: for s in 0..sheets.count {
+        tables[s] = table_of(sheets.view(s).entries);
     }
     tables
 }
