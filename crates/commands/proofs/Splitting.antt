@@ -1,15 +1,19 @@
 -- How an input is split into its lines. Assumes nothing.
-use Rattle.std.proofs.Common.{◌≡◌, ℕ, zero, suc, ◌+◌, ◌-◌, ◌<◌, ◌≤◌, true, false, cond, eqb, ◌⊎◌, List, [], ◌∷◌, ◌++◌, length, get_or, take, drop, sym, refl, ap, ◌∙◌, subst, inl, inr, ⊎_elim, arith}
-use Rattle.std.proofs.lemmas.List.{at_drop_more, at_drop_all, drop_more, drop-drop, drop_all, length-drop, length-append, take_at, drop_at, get_or_append_left}
+use Rattle.std.proofs.Common.{◌≡◌, ℕ, zero, suc, ◌+◌, ◌-◌, ◌<◌, ◌≤◌, true, false, cond, eqb, ◌⊎◌, List, [], ◌∷◌, ◌++◌, length, get_or, take, drop, Some, None, Option, unwrap_or, sym, refl, ap, ◌∙◌, subst, inl, inr, ⊎_elim, add-one, arith}
+use Rattle.std.proofs.lemmas.List.{length-drop, length-append, take_at, drop_at, get_or_append_left}
+use Rattle.std.specs.List.{position, position_or_len}
+use Rattle.std.proofs.lemmas.List.Recursion.{is_position_or_len}
+use Rattle.std.proofs.lemmas.List.Sums.{prefix_len-le-length}
+use Rattle.std.proofs.lemmas.Bool.Decides.{nat_tests}
 use Rattle.commands.specs.Places.{ahead}
-use Rattle.commands.specs.Lines.{longer, lines_of}
+use Rattle.commands.specs.Lines.{longer, lines_of, Whole}
+use Rattle.std.specs.Option.{MatchOption}
 
--- one place on, and at the end
-pub ahead_more : (b : ℕ) (xs : List ℕ) (i : ℕ) → i < length xs → ahead b (drop i xs) ≡ cond (eqb (get_or xs i 0) b) 0 (suc (ahead b (drop (i + 1) xs)))
-ahead_more b xs i h = at_drop_more (ahead b) xs i 0 h
-
-pub ahead_done : (b : ℕ) (xs : List ℕ) (i : ℕ) → length xs ≤ i → ahead b (drop i xs) ≡ 0
-ahead_done b xs i h = at_drop_all (ahead b) xs i h
+-- as many as stand before the place that a search finds, or in all
+pub ahead_position : (b : ℕ) (xs : List ℕ) → unwrap_or (position (λ x. eqb x b) xs) (length xs) ≡ ahead b xs
+ahead_position b xs =
+    let same : ahead b xs ≡ position_or_len (λ x. eqb x b) xs = is_position_or_len (ahead b) (λ x. eqb x b) refl (λ x xs. grind arith) xs in
+    grind (arith, nat_tests, prefix_len-le-length)
 
 -- the first line is what stands before its end, and the others are the lines behind that end
 pub first_line : (b : ℕ) (bs : List ℕ) → lines_of (b ∷ bs) ≡ take (ahead 10 (b ∷ bs)) (b ∷ bs) ∷ lines_of (drop (suc (ahead 10 (b ∷ bs))) (b ∷ bs))
@@ -42,26 +46,24 @@ cut_whole (suc m) bs h (inr e) = cut_behind m bs (omega arith) (ap (λ k. get_or
 
 -- The line that begins at a place is what stands there before the next line end. The next line begins
 -- behind that end, or there is none.
-module _ (bs : List ℕ) (from n at : ℕ) (h : from < length bs) (is : n ≡ ahead 10 (drop from bs)) where
-  here : lines_of (drop from bs) ≡ take n (drop from bs) ∷ lines_of (drop (from + suc n) bs)
-  here =
-      let first = drop_more bs from 0 h in
-      let line : lines_of (drop from bs) ≡ take (ahead 10 (drop from bs)) (drop from bs) ∷ lines_of (drop (suc (ahead 10 (drop from bs))) (drop from bs)) = subst (λ xs. lines_of xs ≡ take (ahead 10 xs) xs ∷ lines_of (drop (suc (ahead 10 xs)) xs)) (sym first) (first_line (get_or bs from 0) (drop (from + 1) bs)) in
-      subst (λ m. lines_of (drop from bs) ≡ take m (drop from bs) ∷ lines_of (drop (suc m) (drop from bs))) (sym is) line ∙ ap (λ xs. take n (drop from bs) ∷ lines_of xs) (drop-drop (suc n) from bs)
+-- a line taken off the front, up to its end
+pub line_taken : (bs line cs : List ℕ) (n : ℕ) → 0 < length bs → n ≡ ahead 10 bs → line ≡ take n bs → cs ≡ drop (n + 1) bs → (lines_of bs ≡ line ∷ lines_of cs) × (length cs < length bs)
+line_taken [] line cs n some is front back = absurd (omega arith)
+line_taken (b ∷ bs) line cs n some is front back =
+    let back' : cs ≡ drop (suc n) (b ∷ bs) = back ∙ ap (λ k. drop k (b ∷ bs)) (add-one n) in
+    let first = first_line b bs in
+    let shorter = length-drop (suc n) (b ∷ bs) in
+    (rw (front, back', is) first, rw back' (omega arith))
 
-  pub line_there : (at ≡ from + n + 1) ⊎ ((at ≡ from + n) × (length bs ≤ at)) → (lines_of (drop from bs) ≡ take (from + n - from) (drop from bs) ∷ lines_of (drop at bs)) × (length (drop at bs) < length (drop from bs))
-  line_there place =
-      let short : n ≡ from + n - from = omega arith in
-      let line : lines_of (drop from bs) ≡ take (from + n - from) (drop from bs) ∷ lines_of (drop (from + suc n) bs) = here ∙ ap (λ k. take k (drop from bs) ∷ lines_of (drop (from + suc n) bs)) short in
-      (line ∙ ap (λ xs. take (from + n - from) (drop from bs) ∷ lines_of xs) (behind place), omega (arith, length-drop at bs, length-drop from bs, past place))
-    where
-      behind : (at ≡ from + n + 1) ⊎ ((at ≡ from + n) × (length bs ≤ at)) → drop (from + suc n) bs ≡ drop at bs
-      behind (inl e) = let same : from + suc n ≡ at = omega arith in ap (λ k. drop k bs) same
-      behind (inr e) = drop_all (from + suc n) bs (omega arith) ∙ sym (drop_all at bs e.1)
-
-      past : (at ≡ from + n + 1) ⊎ ((at ≡ from + n) × (length bs ≤ at)) → from < at
-      past (inl e) = omega arith
-      past (inr e) = omega arith
+-- the whole lines end behind the last line end
+pub whole_behind : (bs : List ℕ) (last : Option ℕ) (n : ℕ)
+    → MatchOption last ((k : ℕ) → k < length bs → get_or bs k 0 ≡ 10 → ⊥) (λ i. (i < length bs) × (get_or bs i 0 ≡ 10) × ((k : ℕ) → i < k → k < length bs → get_or bs k 0 ≡ 10 → ⊥))
+    → MatchOption last (n ≡ 0) (λ i. n ≡ i + 1) → Whole bs n
+whole_behind bs None n none is =
+    record { within = omega arith; ended = inl is; last = λ k from below. none k below; splits = cut_whole n bs (omega arith) (inl is) }
+whole_behind bs (Some i) n (below, at, behind) is =
+    let ended : get_or bs (n - 1) 0 ≡ 10 = ap (λ k. get_or bs k 0) (omega arith) ∙ at in
+    record { within = omega arith; ended = inr ended; last = λ k from. behind k (omega arith); splits = cut_whole n bs (omega arith) (inr ended) }
 
 -- behind whole lines, an input goes on with the lines of what follows
 pub lines_append : (xs ys : List ℕ) → (length xs ≡ 0) ⊎ (get_or xs (length xs - 1) 0 ≡ 10) → lines_of (xs ++ ys) ≡ lines_of xs ++ lines_of ys

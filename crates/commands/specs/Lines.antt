@@ -15,7 +15,7 @@ lines_of (b ∷ bs) = cond (b == 10) ([] ∷ lines_of bs) (longer b (lines_of bs
 
 -- the bytes of which no line was taken yet
 abbrev pub to_come : Lines → List ℕ
-to_come l = drop l.at l.input.now
+to_come l = l.rest.now
 
 -- a line was taken off the front of bs, and cs is left, or there was none
 abbrev pub Took : List ℕ → Option (Bor (List ℕ)) → List ℕ → Type 0

@@ -7,9 +7,5 @@ pub(crate) fn place_of(byte: u8, bytes: &[u8]) -> usize
     ensures is { result ≡ ahead byte bytes.now }
     ensures within { result ≤ length bytes.now }
 {
-    let mut n = 0;
-    'seek: while n < bytes.len() && bytes[n] != byte {
-        n += 1;
-    }
-    n
+    bytes.iter().position(|b| *b == byte).unwrap_or(bytes.len())
 }

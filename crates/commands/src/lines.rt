@@ -1,17 +1,17 @@
 // The lines of an input, one after another, with nothing copied. The byte 0A ends a line, and so does the end of the
 // input behind other bytes.
 ghost use Rattle.std.specs.Prelude.{◌≡◌};
-ghost use Rattle.commands.specs.Lines.{Whole, to_come, Took};
+ghost use Rattle.std.specs.Iterator.{item_count};
+ghost use Rattle.commands.specs.Lines.{Whole, lines_of, to_come, Took};
 
 use crate::find::place_of;
 
 const LINE_END: u8 = b'\n';
 
-// An input, and the place in it where the next line begins.
+// The bytes of an input of which no line was taken yet.
 #[derive(Drop)]
 pub struct Lines<'a> {
-    input: &'a [u8],
-    at: usize,
+    rest: &'a [u8],
 }
 
 impl<'a> Lines<'a> {
@@ -19,22 +19,28 @@ impl<'a> Lines<'a> {
     pub fn new(input: &'a [u8]) -> Lines<'a>
         ensures { to_come result ≡ input.now }
     {
-        Lines { input, at: 0 }
+        Lines { rest: input }
     }
+}
 
-    // The next line, without its end. With each line fewer bytes are still to come, so a loop that takes lines
-    // ends.
-    pub fn next_line(&mut self) -> Option<&'a [u8]>
-        ensures { Took (to_come self.old) result (to_come self.new) }
-    {
-        let input = self.input;
-        let from = self.at;
-        if from >= input.len() {
+impl<'a> Iterator for Lines<'a> {
+    type Item = &'a [u8];
+
+    ghost next_gives = { λ s line t. Took (to_come s) line (to_come t) };
+
+    ghost remaining = { item_count (λ s. lines_of (to_come s)) };
+
+    // The next line, without its end.
+    fn next(&mut self) -> Option<&'a [u8]> {
+        if self.rest.is_empty() {
             return None;
         }
-        let end = from + place_of(LINE_END, &input[from..]);
-        self.at = if end < input.len() { end + 1 } else { end };
-        Some(&input[from..end])
+        let (line, behind) = self.rest.split_at(place_of(LINE_END, self.rest));
+        self.rest = match behind {
+            [_, rest @ ..] => rest,
+            [] => behind,
+        };
+        Some(line)
     }
 }
 
@@ -43,9 +49,8 @@ impl<'a> Lines<'a> {
 pub fn whole_lines(input: &[u8]) -> usize
     ensures { Whole input.now result }
 {
-    let mut n = input.len();
-    'back: while n > 0 && input[n - 1] != LINE_END {
-        n -= 1;
-    }
-    n
+    input
+        .iter()
+        .rposition(|byte| *byte == LINE_END)
+        .map_or(0, |end| end + 1)
 }

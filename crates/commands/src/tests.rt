@@ -2,8 +2,10 @@
 use crate::lines::{Lines, whole_lines};
 use crate::parse::parse;
 use std::test::Fail;
-use subject::answer::{Answer, Reply};
+use subject::answer::Answer;
 use subject::call::Call;
+use subject::denial::Denial;
+use subject::plan::Plan;
 use subject::refusal::Refusal;
 
 // Good lines, and then such as are no calls.
@@ -46,21 +48,21 @@ fn calls(rt: HostRuntime) -> Result<(), Fail> {
     ];
     let mut lines = Lines::new(LINES);
     for call in calls {
-        let line = lines.next_line().ok_or("there are fewer lines than calls")?;
+        let line = lines.next().ok_or("there are fewer lines than calls")?;
         assert_eq!(rt; parse(line), call);
     }
-    assert!(rt; lines.next_line().is_none());
+    assert!(rt; lines.next().is_none());
     Ok(())
 }
 
 #[test]
 fn lines(rt: HostRuntime) {
     let mut empty = Lines::new(b"\n\n");
-    assert!(rt; empty.next_line() == Some(b""));
-    assert!(rt; empty.next_line() == Some(b""));
-    assert!(rt; empty.next_line().is_none());
+    assert!(rt; empty.next() == Some(b""));
+    assert!(rt; empty.next() == Some(b""));
+    assert!(rt; empty.next().is_none());
     let mut none = Lines::new(b"");
-    assert!(rt; none.next_line().is_none());
+    assert!(rt; none.next().is_none());
     assert_eq!(rt; whole_lines(b"b\nl 1\nl"), 6);
 }
 
@@ -68,17 +70,19 @@ fn lines(rt: HostRuntime) {
 fn replies(rt: HostRuntime) -> Result<(), Fail> {
     let mut text = String::new(rt.alloc());
     let replies = [
-        Reply::Given(Answer::Count(120)),
-        Reply::Given(Answer::Options(5)),
-        Reply::Given(Answer::Plan([7; 48], 3)),
-        Reply::Given(Answer::NoPlan),
-        Reply::Given(Answer::Done),
-        Reply::Given(Answer::Refused(Refusal::NotOpen)),
-        Reply::NotPossible,
+        Ok(Answer::Count(120)),
+        Ok(Answer::Options(5)),
+        Ok(Answer::Plan(Plan::new([7; 48], 3))),
+        Ok(Answer::NoPlan),
+        Ok(Answer::Done),
+        Err(Denial::Refused(Refusal::NotOpen)),
+        Err(Denial::NotPossible),
     ];
     for reply in replies {
-        text.push_str(reply.to_string(rt.alloc())?.as_str())?;
-        text.push('\n')?;
+        match reply {
+            Ok(answer) => writeln!(text, "{answer}")?,
+            Err(denial) => writeln!(text, "{denial}")?,
+        }
     }
     assert_eq!(rt;
         text.as_str(),

@@ -16,6 +16,7 @@ use std::io;
 use std::io::{ErrorKind, Read};
 use subject::answer::Reply;
 use subject::call::Call;
+use subject::denial::Denial;
 
 // How much is read at most, of the file and of standard input. An accepted catalogue is shorter.
 const LIMIT: usize = 65536;
@@ -54,19 +55,16 @@ fn fill_from_file(rt: &HostRuntime, to: &mut Vec<u8>) -> io::Result<usize>
 
 // The calls that the lines of some input make.
 fn calls_in(rt: &HostRuntime, input: &[u8]) -> anyhow::Result<Vec<Option<Call>>> {
-    let mut calls = Vec::new(rt.alloc());
-    let mut lines = Lines::new(input);
-    'lines: while let Some(line) = lines.next_line() {
-        calls.push(parse(line))?;
-    }
-    Ok(calls)
+    Ok(Lines::new(input).map(parse).collect(rt.alloc())?)
 }
 
 // Prints each reply on a line.
 fn print(rt: &HostRuntime, replies: &[Reply]) -> anyhow::Result<()> {
     for reply in replies {
-        let reply = *reply;
-        println!(rt; "{reply}")?;
+        match reply {
+            Ok(answer) => println!(rt; "{answer}")?,
+            Err(denial) => println!(rt; "{denial}")?,
+        }
     }
     Ok(())
 }
@@ -98,7 +96,7 @@ fn answer<B: Binder + Drop>(
     input: &[u8],
 ) -> anyhow::Result<Session<B>> {
     let calls = calls_in(rt, input)?;
-    let mut replies = Vec::from_elem(rt.alloc(), Reply::NotPossible, calls.len())?;
+    let mut replies = Vec::from_elem(rt.alloc(), Err(Denial::NotPossible), calls.len())?;
     let mut plan = [0; 48];
     let after = session.run(calls.as_slice(), replies.as_mut_slice(), &mut plan[..]);
     print(rt, replies.as_slice())?;

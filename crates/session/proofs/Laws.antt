@@ -1,7 +1,7 @@
 -- The law of a log from the session that it has led to. Assumes nothing.
-use Rattle.std.proofs.Common.{◌≡◌, ℕ, ◌≤◌, false, List, length, Option, sym, refl, ◌∙◌, subst, true≢false, arith}
+use Rattle.std.proofs.Common.{◌≡◌, ℕ, false, List, length, Option, sym, ◌∙◌, subst, true≢false}
 use Rattle.subject.specs.declared.call.Call.{Call}
-use Rattle.subject.specs.declared.answer.Reply.{Reply}
+use Rattle.subject.specs.Wording.{Reply}
 use Rattle.subject.specs.Problem.{Problem}
 use Rattle.subject.specs.Decisions.{Decision, Largest}
 use Rattle.subject.specs.Logs.{Log, calls, Standing, walking}
@@ -34,15 +34,12 @@ module _ {B : Type 0} {bound : Ghosts B} (meaning : B → Binding) (P : Problem)
   }
 
 -- a run of all lines
-pub ran : {B : Type 0} {bound : Ghosts B} (meaning : B → Binding) (P : Problem) (L : Log) (lines : List (Option Call)) (before after : List Reply) (at count k : ℕ) (s t : Session B bound) (m m' : List ℕ) → count ≤ at → count ≡ k
-    → Running meaning lines 0 at count before after s t m m' → Held meaning P L s → Ran meaning P L lines after k (length m) t
-ran meaning P L lines before after at count k s t m m' h e run was =
-    let is : at ≡ k = omega (arith, run.onward.1) in
-    let held : Held meaning P (logged (length m) lines after k L) t = subst (λ j. Held meaning P (logged (length m) lines after j L) t) is (run.held P L was) in
-    record { held = held; law = held_law meaning P (logged (length m) lines after k L) t held; fitting = λ i lt. run.fitting P L was i (omega arith) (omega arith) }
+pub ran : {B : Type 0} {bound : Ghosts B} (meaning : B → Binding) (P : Problem) (L : Log) (lines : List (Option Call)) (before after : List Reply) (k : ℕ) (s t : Session B bound) (m m' : List ℕ)
+    → Running meaning lines k before after s t m m' → Held meaning P L s → Ran meaning P L lines after k (length m) t
+ran meaning P L lines before after k s t m m' run was =
+    let held = run.held P L was in
+    record { held = held; law = held_law meaning P (logged (length m) lines after k L) t held; fitting = λ i lt. run.fitting P L was i lt }
 
-pub kept : {B : Type 0} {bound : Ghosts B} (meaning : B → Binding) (lines : List (Option Call)) (before after : List Reply) (at count k : ℕ) (s t : Session B bound) (m m' : List ℕ) → count ≤ at → count ≡ k
-    → Running meaning lines 0 at count before after s t m m' → Kept k before after m m'
-kept meaning lines before after at count k s t m m' h e run =
-    let is : at ≡ k = omega (arith, run.onward.1) in
-    record { long = run.long.0; past = λ i lt. run.past i (omega arith); memory = run.memory m refl ∙ (λ j. Rattle.session.specs.Runs.remembered after (is j) m) }
+pub kept : {B : Type 0} {bound : Ghosts B} (meaning : B → Binding) (lines : List (Option Call)) (before after : List Reply) (k : ℕ) (s t : Session B bound) (m m' : List ℕ)
+    → Running meaning lines k before after s t m m' → Kept k before after m m'
+kept meaning lines before after k s t m m' run = record { long = run.long.0; past = run.past; memory = run.memory }

@@ -1,4 +1,3 @@
 pub mod Steps
 pub mod Laws
 pub mod Plans
-pub mod Lines

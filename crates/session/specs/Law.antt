@@ -1,8 +1,8 @@
 -- The law of every log, for the session that it has led to. Assumes nothing.
-use Rattle.std.specs.Prelude.{◌≡◌, ℕ, ◌<◌, false, List, ◌++◌, None, Option, slice_index_or}
+use Rattle.std.specs.Prelude.{◌≡◌, ℕ, ◌<◌, false, List, ◌++◌, None, Err, Option, slice_index_or}
 use Rattle.subject.specs.declared.call.Call.{Call}
-use Rattle.subject.specs.declared.answer.Reply.{Reply}
-use Rattle.subject.specs.declared.answer.Reply.TheVariants.{NotPossible}
+use Rattle.subject.specs.declared.denial.Denial.TheVariants.{NotPossible}
+use Rattle.subject.specs.Wording.{Reply}
 use Rattle.subject.specs.Problem.{Problem, Same}
 use Rattle.subject.specs.Boxes.{Box}
 use Rattle.subject.specs.Decisions.{Decision, Agree, Largest}
@@ -45,4 +45,4 @@ pub record Law {B : Type 0} {bound : Ghosts B} (P : Problem) (L : Log) (s : Sess
 pub record Ran {B : Type 0} {bound : Ghosts B} (meaning : B → Binding) (P : Problem) (L : Log) (lines : List (Option Call)) (replies : List Reply) (k n : ℕ) (s : Session B bound) : Type 0 where
   pub held : Held meaning P (logged n lines replies k L) s
   pub law : Law P (logged n lines replies k L) s
-  pub fitting : (i : ℕ) → i < k → Fitting (slice_index_or lines i None) (slice_index_or replies i NotPossible) (logged n lines replies i L)
+  pub fitting : (i : ℕ) → i < k → Fitting (slice_index_or lines i None) (slice_index_or replies i (Err NotPossible)) (logged n lines replies i L)

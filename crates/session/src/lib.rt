@@ -2,6 +2,7 @@
 #![tactic(auto)]
 
 mod inside;
+mod line;
 mod outside;
 pub mod run;
 pub mod state;

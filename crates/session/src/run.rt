@@ -6,13 +6,11 @@ ghost use Rattle.planner.specs.Opening.{slots_in, posed};
 ghost use Rattle.session.specs.Law.{Held, Ran};
 ghost use Rattle.session.specs.Runs.{Kept};
 
-use crate::inside::inside;
-use crate::outside::outside;
 use crate::state::Session;
 use binder::binders::Binder;
 use catalogue::checked::Catalogue;
 use planner::state::Planner;
-use subject::answer::Reply;
+use subject::answer::{Answer, Reply};
 use subject::call::Call;
 
 impl<B: Binder> Session<B> {
@@ -30,19 +28,14 @@ impl<B: Binder> Session<B> {
         ensures kept { Kept (min (length lines.now) (length replies.old)) replies.old replies.new memory.old memory.new }
     {
         let mut session = self;
-        let count = if lines.len() < replies.len() {
-            lines.len()
-        } else {
-            replies.len()
-        };
-        let mut at = 0;
-        'parts: while at < count {
-            let (after, next) = match session {
-                Session::Outside(planner) => outside(planner, lines, replies, at, count),
-                Session::Inside(walk) => inside(walk, lines, replies, at, count, memory),
+        let count = lines.len().min(replies.len());
+        for (at, line) in lines[..count].iter().enumerate() {
+            replies[at] = if session.crosses(*line) {
+                session = session.cross();
+                Ok(Answer::Done)
+            } else {
+                session.reply(*line, memory)
             };
-            session = after;
-            at = next;
         }
         session
     }

@@ -1,11 +1,19 @@
 -- How what a call is answered is put into words. Assumes nothing.
-use Rattle.std.specs.Prelude.{ℕ, min, List, ◌++◌, take, codes, decimal}
+use Rattle.std.specs.Prelude.{ℕ, List, ◌++◌, take, codes, decimal, Result}
 use Rattle.std.specs.List.{flat_map}
 use Rattle.subject.specs.declared.answer.Answer.{Answer}
-use Rattle.subject.specs.declared.answer.Answer.TheVariants.{Count, Options, Plan, NoPlan, Done, Refused}
-use Rattle.subject.specs.declared.answer.Reply.{Reply}
-use Rattle.subject.specs.declared.answer.Reply.TheVariants.{Given, NotPossible}
-use Rattle.subject.specs.Refusals.{number_of}
+use Rattle.subject.specs.declared.answer.Answer.TheVariants.{Count, Options, Plan, NoPlan, Done}
+use Rattle.subject.specs.declared.denial.Denial.{Denial}
+use Rattle.subject.specs.declared.plan.Plan.{Plan as GivenPlan}
+use Rattle.subject.specs.Refusals.{denial_number}
+
+-- what a line or a call comes to
+abbrev pub Reply : Type 0
+Reply = Result Answer Denial
+
+-- the options of a plan that is answered
+abbrev pub chosen : GivenPlan → List ℕ
+chosen p = take p.slots p.options
 
 -- a space and an option
 abbrev pub spaced : ℕ → List ℕ
@@ -14,11 +22,9 @@ spaced option = codes " " ++ decimal option
 abbrev pub answer_line : Answer → List ℕ
 answer_line (Count n) = codes "ok " ++ decimal n
 answer_line (Options n) = codes "ok " ++ decimal n
-answer_line (Plan options slots) = codes "plan" ++ flat_map spaced (take (min slots 48) options)
+answer_line (Plan p) = codes "plan" ++ flat_map spaced (chosen p)
 answer_line NoPlan = codes "none"
 answer_line Done = codes "ok"
-answer_line (Refused e) = codes "no " ++ decimal (number_of e)
 
-abbrev pub reply_line : Reply → List ℕ
-reply_line (Given answer) = answer_line answer
-reply_line NotPossible = codes "no 41"
+abbrev pub denial_line : Denial → List ℕ
+denial_line d = codes "no " ++ decimal (denial_number d)

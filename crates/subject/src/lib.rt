@@ -4,6 +4,8 @@
 
 pub mod answer;
 pub mod call;
+pub mod denial;
 pub mod laws;
+pub mod plan;
 pub mod refusal;
 pub mod wording;

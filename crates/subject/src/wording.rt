@@ -2,9 +2,10 @@
 ghost use Rattle.std.specs.Prelude.{Some};
 ghost use Rattle.std.specs.List.{flat_map};
 ghost use Rattle.std.specs.Fmt.{WritesOnOk};
-ghost use Rattle.subject.specs.Wording.{spaced, answer_line, reply_line};
+ghost use Rattle.subject.specs.Wording.{spaced, answer_line, denial_line};
 
-use crate::answer::{Answer, Reply};
+use crate::answer::Answer;
+use crate::denial::Denial;
 use std::fmt;
 
 // Writes each option behind a space.
@@ -24,27 +25,21 @@ impl fmt::Display for Answer {
         match self {
             Answer::Count(n) => write!(f, "ok {n}"),
             Answer::Options(n) => write!(f, "ok {n}"),
-            Answer::Plan(options, slots) => {
+            Answer::Plan(plan) => {
                 write!(f, "plan")?;
-                write_options(&options[0..(*slots).min(48)], f)
+                write_options(plan.as_slice(), f)
             }
             Answer::NoPlan => write!(f, "none"),
             Answer::Done => write!(f, "ok"),
-            Answer::Refused(refusal) => {
-                let number = refusal.number();
-                write!(f, "no {number}")
-            }
         }
     }
 }
 
-impl fmt::Display for Reply {
-    ghost output = { λ r. Some (reply_line r) };
+impl fmt::Display for Denial {
+    ghost output = { λ d. Some (denial_line d) };
 
     fn fmt<W: fmt::Write>(&self, f: &mut fmt::Formatter<W>) -> fmt::Result {
-        match self {
-            Reply::Given(answer) => write!(f, "{answer}"),
-            Reply::NotPossible => write!(f, "no 41"),
-        }
+        let number = self.number();
+        write!(f, "no {number}")
     }
 }

@@ -1,26 +1,15 @@
-use Rattle.std.proofs.Common.{refl, arith}
-use Rattle.std.proofs.lemmas.Bool.{both_ways}
-use Rattle.session.proofs.Steps.{running_none, running_more, running_end}
-use Rattle.session.proofs.Lines.{begin_enters, begin_fits}
+use Rattle.std.proofs.Common.{rules}
+use Rattle.std.proofs.lemmas.Result.{err_from_is_err_and}
 use Rattle.session.proofs.outside.outside.Goals as goal
 
-pub loop-at-init : goal.loop-at-init
-loop-at-init g c m = running_none _ _ _ c.args.from _ _ m c.requires.1.1
+pub returns-in_err-try_option-in-Some-Try : goal.returns-in_err-try_option-in-Some-Try
+returns-in_err-try_option-in-Some-Try g c = let p = err_from_is_err_and c.from_residual.result c.from_residual.ensures.1 in rw (p.1, p.2) (search rules)
 
-pub returns-then-is_begin : goal.returns-then-is_begin
-returns-then-is_begin g c = record {
-  further = λ _. omega (arith, c.loop-at.auto.at);
-  runs = λ m.
-      let is = c.is_begin.ensures.0 c.if-is_begin.true in
-      running_more _ _ c.args.count c.args.from c.loop-at.at _ _ _ _ _ m m m _ (c.loop-at.invariant m) c.loop-at-test.true (omega (arith, c.loop-at-test.true, c.requires.1.0, c.loop-at.auto.replies)) refl refl
-      (λ P L h. begin_enters _ P L _ _ _ is _ (c.begin.ensures P L) h) (λ P L h. begin_fits _ P L _ _ c.begin.result is h);
-}
+pub returns-in_err-strike-in-Some-Strike : goal.returns-in_err-strike-in-Some-Strike
+returns-in_err-strike-in-Some-Strike g c = let p = err_from_is_err_and c.from_residual-in_err-strike-in-Some-Strike.result c.from_residual-in_err-strike-in-Some-Strike.ensures.1 in rw (p.1, p.2) (search rules)
 
-pub loop-at-preserved : goal.loop-at-preserved
-loop-at-preserved g c m =
-    let done = c.reply.ensures (λ e. both_ways _ c.if-is_begin.false (c.is_begin.ensures.1 e)) in
-    running_more _ _ c.args.count c.args.from c.loop-at.at _ _ _ _ _ m m m _ (c.loop-at.invariant m) c.loop-at-test.true (omega (arith, c.loop-at-test.true, c.requires.1.0, c.loop-at.auto.replies)) (done.memory m) refl
-    (λ P L h. done.enters P L _ h) (λ P L h. done.fits P L h)
+pub returns-in_err-back-in-Some-Back : goal.returns-in_err-back-in-Some-Back
+returns-in_err-back-in-Some-Back g c = let p = err_from_is_err_and c.from_residual-in_err-back-in-Some-Back.result c.from_residual-in_err-back-in-Some-Back.ensures.1 in rw (p.1, p.2) (search rules)
 
-pub returns : goal.returns
-returns g c = record { further = λ h. h; runs = λ m. running_end _ _ c.args.count _ c.loop-at.at _ _ _ _ m m c.loop-at-test.false (c.loop-at.invariant m) }
+pub returns-in_err-look-in-Some-Look : goal.returns-in_err-look-in-Some-Look
+returns-in_err-look-in-Some-Look g c = let p = err_from_is_err_and c.from_residual-in_err-look-in-Some-Look.result c.from_residual-in_err-look-in-Some-Look.ensures.1 in rw (p.1, p.2) (search rules)
