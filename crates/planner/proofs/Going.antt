@@ -39,7 +39,7 @@ at_on Spent G t u ne h = absurd (ne refl)
 module _ {B : Type 0} {bound : Ghosts B} (meaning : B → Binding) (P : Problem) where
   -- the number of slots, as the problem and the walk have it
   pub walk_slots : (D : List Decision) (G : List Plan) (w : Walk B bound) → Goes meaning P D G w → length P.sizes ≡ w.planner.slots.count
-  walk_slots D G w go = ap length go.sizes ∙ rw length-take (let k = w.planner.slots.few.0 in let h = w.planner.slots.few.1 in omega arith)
+  walk_slots D G w go = ap length go.sizes ∙ rw length-take (let k = w.planner.slots.few in let h = w.planner.slots.long in omega arith)
 
   -- A walk begins.
   pub begun : (L : Log) (p : Planner B bound) (w : Walk B bound) (m : Binding) → w.planner.slots ≡ p.slots → w.planner.saved ≡ p.saved → w.planner.depth ≡ p.depth → w.planner.slate ≡ p.slate
@@ -48,7 +48,7 @@ module _ {B : Type 0} {bound : Ghosts B} (meaning : B → Binding) (P : Problem)
   begun L p w m es ev ed el eb em noted one first a =
       let D = a.decisions in
       let st = a.stands in
-      let room : m.marks + 49 ≤ 72 = omega (arith, ap (λ x. x.marks) em, st.marks, p.deep.0) in
+      let room : m.marks + 49 ≤ 72 = omega (arith, ap (λ x. x.marks) em, st.marks, p.deep) in
       let first-box = exploring_begins P D (opens p.slate.cells) m (meaning w.planner.binder) (pending w.stack) st.some room
       (subst (λ x. Rattle.settle.specs.Keeping.Has P x) (sym em) st.has) (subst (λ x. Rattle.settle.specs.Keeping.Keeps P (opens p.slate.cells) x.kept) (sym em) st.keeps) st.largest noted first in
       record {

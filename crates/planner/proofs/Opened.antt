@@ -1,8 +1,12 @@
 -- What opening a planner comes to. Assumes nothing.
-use Rattle.std.proofs.Common.{◌≡◌, ℕ, zero, suc, ◌+◌, ◌<◌, ◌≤◌, true, T, List, [], ◌∷◌, length, get_or, take, set, replicate, Some, None, Ok, Err, Result, sym, refl, ap, ◌∙◌, subst, ⊎_elim, arith, length-set, length-take, get_or-set_other, get_or-take, get_or-set_same}
-use Rattle.std.specs.List.{slice_get, AllByRecursion}
+use Rattle.std.proofs.Common.{◌≡◌, ℕ, zero, suc, ◌+◌, ◌<◌, ◌≤◌, Bool, true, false, T, List, [], ◌∷◌, length, get_or, take, Ok, Err, Result, sym, refl, ap, unwrap_or, ◌∙◌, subst, ⊎_elim, arith, length-take, get_or-take}
+use denote.Param.Members.{Mut, Called}
+use Rattle.std.specs.Array.{IsFromFnResult, IsFromFnResultFrom}
+use Rattle.std.specs.Bool.{MatchBool}
+use Rattle.std.specs.List.{slice_get, AllByRecursion, AllWithin, HoldsAt, range_with_len}
+use Rattle.std.proofs.lemmas.List.FromFn.{length-range_with_len, get_or-range_with_len}
 use Rattle.std.proofs.lemmas.List.{get_or_past, same_lists, get_or_default}
-use Rattle.std.proofs.lemmas.Option.{slice_get-get_or, slice_get_past}
+use Rattle.std.proofs.lemmas.Option.{unwrap_or-slice_get}
 use Rattle.std.proofs.lemmas.Bool.{cases_eq, cases_lt}
 use Rattle.catalogue.specs.declared.fault.Fault.{Fault}
 use Rattle.catalogue.specs.Content.{Content}
@@ -10,7 +14,7 @@ use Rattle.catalogue.specs.declared.counts.Counts.{Counts}
 use Rattle.catalogue.specs.Verdict.{content, accepts}
 use Rattle.catalogue.specs.Law.{Octets}
 use Rattle.catalogue.specs.Views.{options_said}
-use Rattle.catalogue.proofs.Held.{Held, held}
+use Rattle.catalogue.proofs.Held.{held}
 use Rattle.subject.specs.Problem.{Problem, Real, Placed}
 use Rattle.subject.specs.Boxes.{Box}
 use Rattle.subject.specs.Decisions.{Largest}
@@ -23,20 +27,11 @@ use Rattle.settle.specs.Keeping.{Has, Keeps}
 use Rattle.settle.specs.Settled.{Settled}
 use Rattle.settle.proofs.Keeping.{keeps_same, has_framed}
 use Rattle.settle.proofs.Tight.{framed_none}
-use Rattle.planner.specs.Opening.{slots_said, slots_in, posed, AllBelow, Started}
+use Rattle.planner.specs.Opening.{slots_said, slots_in, posed, Below, AllBelow, Started}
 use Rattle.planner.specs.States.{After}
 use Rattle.planner.specs.declared.state.Planner.{Planner}
 
 -- ---- the slots of a catalogue
-
--- the first n sizes are taken
-pub record Taking (options sizes : List ℕ) (n : ℕ) : Type 0 where
-  pub long : length sizes ≡ 48
-  pub few : (n ≤ 48) × (n ≤ length options)
-  pub is : (s : ℕ) → s < n → get_or sizes s 0 ≡ get_or options s 0
-
-pub taking_none : (options : List ℕ) → Taking options (replicate 48 0) 0
-taking_none options = record { long = refl; few = (omega arith, omega arith); is = λ s h. absurd (omega arith) }
 
 -- what is said of a slot
 said_is : (r : Result Content Fault) (i : ℕ) → options_said r i ≡ slice_get (slots_said r) i
@@ -47,47 +42,40 @@ told : (bytes : List ℕ) (i : ℕ) → options_said (content bytes) i ≡ slice
 unfolding slots_in
 told bytes i = said_is (content bytes) i
 
-some_there : (xs : List ℕ) (i n : ℕ) → Some n ≡ slice_get xs i → (i < length xs) × (n ≡ get_or xs i 0)
-some_there xs i n e =
+-- the closure gives what h says of each number, and stays as it is
+made_at : {F : Type 0} (g : Mut F (ℕ × Unit {0}) ℕ) (f : F) (h : ℕ → ℕ) → ((i y : ℕ) (q : F) → Called g f (i, tt) y q → (q ≡ f) × (y ≡ h i))
+    → (ys : List ℕ) (i n : ℕ) → IsFromFnResultFrom g f ys i n → (k : ℕ) → i ≤ k → k < i + n → get_or ys k 0 ≡ h k
+made_at g f h gives ys i zero made k low high = absurd (omega arith)
+made_at g f h gives ys i (suc n) (q, y, is, called, rest) k low high =
+    let one = gives i y q called in
     ⊎_elim
-    (λ h. let q : Some n ≡ Some (get_or xs i 0) = e ∙ slice_get-get_or xs i 0 h in (h, cc))
-    (λ past. let q : Some n ≡ None = e ∙ slice_get_past xs i past in let z : ◌≡◌ {A = ℕ} 0 1 = cc in absurd (omega arith))
-    (cases_lt i (length xs))
+    (λ e. subst (λ x. get_or ys x 0 ≡ h x) (sym e) (is.1 0 ∙ one.1))
+    (λ ne. made_at g f h gives ys (i + 1) n (subst (λ x. IsFromFnResultFrom g x ys (i + 1) n) one.0 rest) k (omega arith) (omega arith))
+    (cases_eq k i)
 
-none_past : (xs : List ℕ) (i : ℕ) → None ≡ slice_get xs i → length xs ≤ i
-none_past xs i e =
-    ⊎_elim (λ h. let q : None ≡ Some (get_or xs i 0) = e ∙ slice_get-get_or xs i 0 h in let z : ◌≡◌ {A = ℕ} 0 1 = cc in absurd (omega arith)) (λ past. past) (cases_lt i (length xs))
+pub said_at : {F : Type 0} (g : Mut F (ℕ × Unit {0}) ℕ) (f : F) (h : ℕ → ℕ) (ys : List ℕ) (n : ℕ) → IsFromFnResult g f ys n → ((i y : ℕ) (q : F) → Called g f (i, tt) y q → (q ≡ f) × (y ≡ h i))
+    → (k : ℕ) → k < n → get_or ys k 0 ≡ h k
+said_at g f h ys n made gives k lt = made_at g f h gives ys 0 n made.each k (omega arith) (omega arith)
 
-pub taking_more : (bytes : List ℕ) (sizes : List ℕ) (i n : ℕ) → i < 48 → Some n ≡ options_said (content bytes) i → Taking (slots_in bytes) sizes i → Taking (slots_in bytes) (set sizes i n) (i + 1)
-taking_more bytes sizes i n h e was =
-    let t = some_there (slots_in bytes) i n (e ∙ told bytes i) in
-    record {
-      long = simp length-set was.long;
-      few = (omega arith, omega (arith, t.0));
-      is = λ s lt. ⊎_elim
-          (λ q. subst (λ x. get_or (set sizes i n) x 0 ≡ get_or (slots_in bytes) x 0) (sym q) (get_or-set_same sizes i n 0 (omega (arith, was.long)) ∙ t.1))
-          (λ ne. get_or-set_other sizes i s n 0 ne ∙ was.is s (omega arith))
-          (cases_eq s i);
-    }
-
-taken_all : (options sizes : List ℕ) (n : ℕ) → n ≡ length options → Taking options sizes n → take n sizes ≡ options
-taken_all options sizes n e was =
-    let long : length (take n sizes) ≡ n = rw length-take (omega (arith, was.long, was.few.0)) in
-    same_lists (take n sizes) options (long ∙ e)
-    (λ i d h. get_or_default (take n sizes) i d 0 h ∙ get_or-take n sizes i 0 (omega (arith, long)) ∙ was.is i (omega (arith, long)) ∙ sym (get_or_default options i d 0 (omega (arith, long, e))))
-
-pub taken_none : (bytes sizes : List ℕ) (n : ℕ) → None ≡ options_said (content bytes) n → Taking (slots_in bytes) sizes n → take n sizes ≡ slots_in bytes
-taken_none bytes sizes n e was =
-    taken_all (slots_in bytes) sizes n (let h = none_past (slots_in bytes) n (e ∙ told bytes n) in omega (arith, was.few.1)) was
-
--- a checked catalogue has at most 48 slots, with at most 32 options each
-slots_few : (bytes : List ℕ) (c : Counts) → Held bytes c → length (slots_in bytes) ≤ 48
+-- a checked catalogue has at most 48 slots, and counts them
+pub slots_counted : (bytes : List ℕ) (c : Counts) → accepts bytes c ≡ true → Octets bytes → (c.slots ≤ 48) × (length (slots_in bytes) ≡ c.slots)
 unfolding slots_in
-slots_few bytes c h = subst (λ x. length (slots_said x) ≤ 48) (sym h.is) h.sound.slots
+slots_counted bytes c a o =
+    let h = held bytes c a o in
+    let count : length h.list.options ≡ c.slots = ap (λ (k : Counts). k.slots) h.counts in
+    (omega (arith, count, h.sound.slots), subst (λ x. length (slots_said x) ≡ c.slots) (sym h.is) count)
 
-pub taken_full : (bytes sizes : List ℕ) (n : ℕ) (c : Counts) → 48 ≤ n → accepts bytes c ≡ true → Octets bytes → Taking (slots_in bytes) sizes n → take n sizes ≡ slots_in bytes
-taken_full bytes sizes n c h a o was =
-    taken_all (slots_in bytes) sizes n (omega (arith, was.few.0, was.few.1, slots_few bytes c (held bytes c a o))) was
+-- with what is said of each slot the sizes are the catalogue's
+pub sizes_taken : (bytes sizes : List ℕ) (n : ℕ) (c : Counts) → n ≡ c.slots → accepts bytes c ≡ true → Octets bytes → length sizes ≡ 48 → ((s : ℕ) → s < 48 → get_or sizes s 0 ≡ unwrap_or (options_said (content bytes) s) 0) → take n sizes ≡ slots_in bytes
+sizes_taken bytes sizes n c e a o long said =
+    let count = slots_counted bytes c a o in
+    let few : n ≤ 48 = omega (arith, e, count.0) in
+    let all : length (slots_in bytes) ≡ n = count.1 ∙ sym e in
+    let taken : length (take n sizes) ≡ n = rw length-take (omega (arith, long, few)) in
+    same_lists (take n sizes) (slots_in bytes) (omega (arith, taken, all))
+    (λ i d h.
+    let is = said i (omega (arith, h, taken, few)) ∙ ap (λ x. unwrap_or x 0) (told bytes i) ∙ unwrap_or-slice_get (slots_in bytes) i 0 in
+    get_or_default (take n sizes) i d 0 h ∙ get_or-take n sizes i 0 (omega (arith, taken, h)) ∙ is ∙ sym (get_or_default (slots_in bytes) i d 0 (omega (arith, h, taken, all))))
 
 all_at : (xs : List ℕ) (s : ℕ) → AllByRecursion (λ n. (1 ≤ n) × (n ≤ 32)) xs → get_or xs s 0 ≤ 32
 all_at [] s a = omega arith
@@ -103,6 +91,25 @@ unfolding slots_in
 slots_some bytes c a o = let h = held bytes c a o in subst (λ x. 0 < length (slots_said x)) (sym h.is) (omega (arith, h.sound.some))
 
 -- ---- the first box
+
+-- a test of each number below n that stops at the first that fails
+pub each_number : (n : ℕ) (r : Bool) (P : ℕ → Type 0)
+    → MatchBool r (AllWithin P (range_with_len 0 n) 0 (length (range_with_len 0 n))) ((k : ℕ) × (k < length (range_with_len 0 n)) × HoldsAt (λ i. P i → ⊥) (range_with_len 0 n) k)
+    → (r ≡ true → (k : ℕ) → k < n → P k) × (((k : ℕ) → k < n → P k) → r ≡ true)
+each_number n true P h =
+    (λ e k lt. let is : get_or (range_with_len 0 n) k 0 ≡ k = omega (arith, get_or-range_with_len 0 n k 0 lt) in subst P is (h k 0 (omega arith) (omega (arith, length-range_with_len 0 n))), λ all. refl)
+each_number n false P (k, lt, not_there) =
+    let low : k < n = omega (arith, length-range_with_len 0 n, lt) in
+    let is : get_or (range_with_len 0 n) k 0 ≡ k = omega (arith, get_or-range_with_len 0 n k 0 low) in
+    (λ e. cc, λ all. absurd (not_there 0 (subst P (sym is) (all k low))))
+
+-- every sheet names slots below n alone where each does
+pub all_sheets : (m : Binding) (n : ℕ) (r : Bool) → (r ≡ true → (k : ℕ) → k < m.count → Below m k n (length (m.scope k))) × (((k : ℕ) → k < m.count → Below m k n (length (m.scope k))) → r ≡ true)
+    → (r ≡ true → AllBelow m n m.count) × (AllBelow m n m.count → r ≡ true)
+all_sheets m n r d = (
+  λ e. record { each = λ k i h h' lt. (d.0 e k h).each i h lt lt },
+  λ a. d.1 (λ k h. record { each = λ i h' lt lt'. a.each k i h h lt }),
+)
 
 -- a box that opens every option that there is: the largest box within it is the largest where nothing is forbidden
 first_largest : (P : Problem) (X Y : Box) → ((s o : ℕ) → Real P s o → T (X s o)) → Rattle.subject.specs.Boxes.LargestIn P X Y → Largest P [] Y

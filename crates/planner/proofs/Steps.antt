@@ -97,7 +97,7 @@ bit_open c s o h = (λ b. (small_bit 32 (get_or c s 0) o h b, b), λ b. b.1)
 module _ {B : Type 0} {bound : Ghosts B} (meaning : B → Binding) (P : Problem) where
   -- the number of slots and their sizes, as the problem and the planner have them
   pub slots_are : (D : List Decision) (p : Planner B bound) → Stands meaning P D p → length P.sizes ≡ p.slots.count
-  slots_are D p st = ap length st.sizes ∙ rw length-take (let k = p.slots.few.0 in let h = p.slots.few.1 in omega arith)
+  slots_are D p st = ap length st.sizes ∙ rw length-take (let k = p.slots.few in let h = p.slots.long in omega arith)
 
   pub size_is : (D : List Decision) (p : Planner B bound) (s : ℕ) → s < p.slots.count → Stands meaning P D p → get_or P.sizes s 0 ≡ get_or p.slots.sizes s 0
   size_is D p s h st = ap (λ l. get_or l s 0) st.sizes ∙ rw get_or-take
@@ -207,7 +207,7 @@ module _ {B : Type 0} {bound : Ghosts B} (meaning : B → Binding) (P : Problem)
       let big = decided_largest D (tried s o) p st m k b q.slate.cells has keeps shows.1.placed cut done in
       let few : tries D < 16 = omega (arith, depth_is D p st) in
       let table : List OptionBox = set p.saved p.depth p.slate in
-      let here : cells_at table p.depth ≡ p.slate.cells = cells_same p.saved p.depth p.slate (let y = p.deep.1 in omega arith) in
+      let here : cells_at table p.depth ≡ p.slate.cells = cells_same p.saved p.depth p.slate (let y = p.long in omega arith) in
       let newest : Keeps P (opens p.slate.cells) (k.marked p.depth) =
       subst (λ i. Keeps P (opens p.slate.cells) (k.marked i)) st.marks
       (keeps_same P _ _ _ (done.framed.marked m0.marks) (keeps_same P _ _ _ noted.newest st.keeps)) in

@@ -37,10 +37,7 @@ impl<B: Binder> Planner<B> {
         ensures law { (P : Problem) (L : Log) → After B.Binder.meaning P L self.old → After B.Binder.meaning P (tries slot option result ∷ L) self.new }
         ensures counted { Counted result self.old self.new }
     {
-        let option = match self.open_option(slot, option) {
-            Ok(o) => o,
-            Err(e) => return Err(e),
-        };
+        let option = self.open_option(slot, option)?;
         if self.depth >= TRIES {
             return Err(Refusal::TooManyTries);
         }
@@ -59,10 +56,7 @@ impl<B: Binder> Planner<B> {
         ensures law { (P : Problem) (L : Log) → After B.Binder.meaning P L self.old → After B.Binder.meaning P (strikes slot option result ∷ L) self.new }
         ensures counted { Counted result self.old self.new }
     {
-        let option = match self.open_option(slot, option) {
-            Ok(o) => o,
-            Err(e) => return Err(e),
-        };
+        let option = self.open_option(slot, option)?;
         self.slate.close(slot, option);
         settle(&mut self.binder, self.slots.count, &mut self.slate);
         Ok(self.slate.count())

@@ -6,57 +6,40 @@ ghost use Rattle.planner.specs.States.{After};
 use crate::state::{Planner, Slots};
 use binder::binders::Binder;
 use binder::clear::undo_all;
-use boxes::{OptionBox, SLOTS};
+use boxes::OptionBox;
 use catalogue::checked::Catalogue;
 use settle::settle;
+use std::array;
 
 // The slots of a catalogue.
 fn slots_of(catalogue: &Catalogue) -> Slots
     ensures { take result.count result.sizes ≡ slots_in catalogue.now.bytes.now }
 {
-    let mut sizes = [0; 48];
-    let mut count = 0;
-    'slots: while count < SLOTS {
-        match catalogue.options(count) {
-            Some(n) => {
-                sizes[count] = n;
-                count += 1;
-            }
-            None => break,
-        }
+    Slots {
+        sizes: array::from_fn(|slot| catalogue.options(slot).unwrap_or(0)),
+        count: usize::from(catalogue.counts.slots),
     }
-    Slots { sizes, count }
 }
 
 // Whether a sheet names slots below `slots` alone.
 fn sheet_below<B: Binder>(binder: &B, sheet: usize, slots: usize) -> bool
     ensures { Decides result (Below (B.Binder.meaning binder.now) sheet slots (length ((B.Binder.meaning binder.now).scope sheet))) }
 {
-    let arity = match binder.arity(sheet) {
-        Ok(n) => n,
-        Err(_) => return true,
+    let Ok(arity) = binder.arity(sheet) else {
+        return true;
     };
-    for position in 0..arity {
-        if let Ok(slot) = binder.slot_at(sheet, position) {
-            if slot >= slots {
-                return false;
-            }
-        }
-    }
-    true
+    (0..arity).all(|position| {
+        binder
+            .slot_at(sheet, position)
+            .is_ok_and(|slot| slot < slots)
+    })
 }
 
 // Whether every sheet names slots below `slots` alone.
 fn all_below<B: Binder>(binder: &B, slots: usize) -> bool
     ensures { Decides result (AllBelow (B.Binder.meaning binder.now) slots (B.Binder.meaning binder.now).count) }
 {
-    let count = binder.sheets();
-    for sheet in 0..count {
-        if !sheet_below(binder, sheet, slots) {
-            return false;
-        }
-    }
-    true
+    (0..binder.sheets()).all(|sheet| sheet_below(binder, sheet, slots))
 }
 
 // The first box: all that the sheets leave of every option of the slots; nothing where a sheet names a slot
@@ -75,15 +58,14 @@ fn first_box<B: Binder>(binder: &mut B, slots: &Slots) -> OptionBox
 impl<B: Binder> Planner<B> {
     // Opens a planner on the slots of a checked catalogue and a binder, whose marks are undone. The rule of each
     // sheet is what it keeps then.
-    pub fn open(catalogue: &Catalogue, binder: B) -> Planner<B>
+    pub fn open(catalogue: &Catalogue, mut binder: B) -> Planner<B>
         ensures { After B.Binder.meaning (posed (slots_in catalogue.now.bytes.now) (B.Binder.meaning binder)) [] result }
     {
         let slots = slots_of(catalogue);
-        let mut held = binder;
-        undo_all(&mut held);
-        let slate = first_box(&mut held, &slots);
+        undo_all(&mut binder);
+        let slate = first_box(&mut binder, &slots);
         Planner {
-            binder: held,
+            binder,
             slots,
             slate,
             saved: [slate; 16],

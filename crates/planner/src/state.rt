@@ -6,18 +6,22 @@ use binder::binders::Binder;
 use boxes::OptionBox;
 use explore::stack::Stack;
 
-// How many slots there are, and how many options each has.
+// How many slots there are, and how many options each has. The sizes stand in a table that is as long as there can be
+// slots, since the library takes no memory from a heap.
 #[derive(Clone, Copy)]
 pub struct Slots {
     pub(crate) sizes: [u8; 48],
     pub(crate) count: usize,
-    ghost few: { (count ≤ 48) × (length sizes ≡ 48) },
+    ghost few: { count ≤ 48 },
+    ghost long: { length sizes ≡ 48 },
 }
 
 // The box that is open now, and the box before each standing try. The binder has a mark for each of those.
 //
 //   saved:  [ box before try 0 | box before try 1 | .. ]     slate: the box after the newest decision
 //                                      depth - 1 ^
+//
+// The saved boxes stand in a table of all that there can be, since the library takes no memory from a heap.
 #[derive(Drop)]
 pub struct Planner<B: Binder> {
     pub(crate) binder: B,
@@ -25,7 +29,8 @@ pub struct Planner<B: Binder> {
     pub(crate) slate: OptionBox,
     pub(crate) saved: [OptionBox; 16],
     pub(crate) depth: usize,
-    ghost deep: { (depth ≤ 16) × (length saved ≡ 16) },
+    ghost deep: { depth ≤ 16 },
+    ghost long: { length saved ≡ 16 },
 }
 
 // A planner that is walked through: the boxes that are still to be explored for plans, and how far the walk is.

@@ -16,7 +16,9 @@ use subject::refusal::Refusal;
 
 // Writes the first `count` options of a plan over the front of a memory.
 fn write_plan(plan: &[u8; 48], count: usize, memory: &mut [u8])
-    requires { (count ≤ 48) × ((count ≤ length memory.old) × (length plan.now ≡ 48)) }
+    requires few { count ≤ 48 }
+    requires room { count ≤ length memory.old }
+    requires long { length plan.now ≡ 48 }
     ensures { memory.new ≡ take count plan.now ++ drop count memory.old }
 {
     memory[..count].copy_from_slice(&plan[..count]);
@@ -24,14 +26,13 @@ fn write_plan(plan: &[u8; 48], count: usize, memory: &mut [u8])
 
 impl<B: Binder> Planner<B> {
     // Begins a walk, which uses the planner up.
-    pub fn begin(self) -> Walk<B>
+    pub fn begin(mut self) -> Walk<B>
         ensures { (P : Problem) (L : Log) → After B.Binder.meaning P L self → Walking B.Binder.meaning P (begins ∷ L) result }
     {
-        let mut planner = self;
-        save(&mut planner.binder);
-        let stack = Stack::new(planner.slate);
+        save(&mut self.binder);
+        let stack = Stack::new(self.slate);
         Walk {
-            planner,
+            planner: self,
             stack,
             state: State::Fresh,
         }
@@ -82,11 +83,10 @@ impl<B: Binder> Walk<B> {
         ensures { (P : Problem) (L : Log) → Walking B.Binder.meaning P L self → After B.Binder.meaning P (ends ∷ L) result }
     {
         let Walk {
-            planner,
+            mut planner,
             stack,
-            state: _,
+            ..
         } = self;
-        let mut planner = planner;
         stack.leave(&mut planner.binder);
         planner
     }

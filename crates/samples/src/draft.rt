@@ -14,6 +14,18 @@ fn unused_behind(used: usize) -> &'static [u8]
     if used < 8 { &UNUSED[used..] } else { &[] }
 }
 
+// The kinds of records, by the byte that each begins with.
+#[derive(Clone, Copy)]
+enum Kind {
+    Slot = 1,
+    Fit = 2,
+    Bar = 3,
+    Load = 4,
+    Row = 5,
+    Weight = 6,
+    End = 7,
+}
+
 #[derive(Drop)]
 pub struct Draft {
     pub(crate) bytes: Vec<u8>,
@@ -52,7 +64,7 @@ impl Draft {
         ensures bytes { IfOk result (λ d. d.bytes.items ≡ self.bytes.items ++ slot_bytes options) }
         ensures long { IfOk result (λ d. vec_len d.bytes ≡ vec_len self.bytes + 2) }
     {
-        self.raw(&[1, options])
+        self.raw(&[Kind::Slot as u8, options])
     }
 
     // Eight bytes: the ones given, and behind them FF.
@@ -68,7 +80,7 @@ impl Draft {
         ensures bytes { IfOk result (λ d. d.bytes.items ≡ self.bytes.items ++ row_bytes options.now) }
         ensures long { IfOk result (λ d. (length options.now ≤ 8 → vec_len d.bytes ≡ vec_len self.bytes + 9)) }
     {
-        self.raw(&[5])?.fields(options)
+        self.raw(&[Kind::Row as u8])?.fields(options)
     }
 
     // A header of a kind, without a cap: so many slots, and which.
@@ -84,7 +96,7 @@ impl Draft {
         ensures bytes { IfOk result (λ d. d.bytes.items ≡ self.bytes.items ++ 2 ∷ length scope.now % 256 ∷ padded scope.now) }
         ensures long { IfOk result (λ d. (length scope.now ≤ 8 → vec_len d.bytes ≡ vec_len self.bytes + 10)) }
     {
-        self.header(2, scope)
+        self.header(Kind::Fit as u8, scope)
     }
 
     // The header of a bar sheet that names these slots.
@@ -92,7 +104,7 @@ impl Draft {
         ensures bytes { IfOk result (λ d. d.bytes.items ≡ self.bytes.items ++ 3 ∷ length scope.now % 256 ∷ padded scope.now) }
         ensures long { IfOk result (λ d. (length scope.now ≤ 8 → vec_len d.bytes ≡ vec_len self.bytes + 10)) }
     {
-        self.header(3, scope)
+        self.header(Kind::Bar as u8, scope)
     }
 
     // The header of a load sheet that names these slots and has this cap.
@@ -100,7 +112,8 @@ impl Draft {
         ensures bytes { IfOk result (λ d. d.bytes.items ≡ self.bytes.items ++ ((4 ∷ length scope.now % 256 ∷ padded scope.now) ++ four_bytes «cap»)) }
         ensures long { IfOk result (λ d. (length scope.now ≤ 8 → vec_len d.bytes ≡ vec_len self.bytes + 14)) }
     {
-        self.header(4, scope)?.raw(&cap.to_le_bytes())
+        self.header(Kind::Load as u8, scope)?
+            .raw(&cap.to_le_bytes())
     }
 
     // What an option weighs at a position of the newest sheet's scope.
@@ -108,7 +121,8 @@ impl Draft {
         ensures bytes { IfOk result (λ d. d.bytes.items ≡ self.bytes.items ++ 6 ∷ position ∷ option ∷ two_bytes amount) }
         ensures long { IfOk result (λ d. vec_len d.bytes ≡ vec_len self.bytes + 5) }
     {
-        self.raw(&[6, position, option])?.raw(&amount.to_le_bytes())
+        self.raw(&[Kind::Weight as u8, position, option])?
+            .raw(&amount.to_le_bytes())
     }
 
     // The end of the file.
@@ -116,7 +130,7 @@ impl Draft {
         ensures bytes { IfOk result (λ d. d.bytes.items ≡ self.bytes.items ++ 7 ∷ []) }
         ensures long { IfOk result (λ d. vec_len d.bytes ≡ vec_len self.bytes + 1) }
     {
-        self.raw(&[7])
+        self.raw(&[Kind::End as u8])
     }
 
     // The file with one byte changed, if it has a byte at the place.

@@ -3,22 +3,14 @@ ghost use Rattle.std.specs.Prelude.{◌≡◌, ◌+◌, ◌*◌, ◌<◌, ◌≤
 
 use crate::draft::Draft;
 use std::alloc::{AllocError, Global};
+use std::array;
 
 // Eight slots in a row, from the first on.
 fn slots_from(first: u8) -> [u8; 8]
     requires { first ≤ 40 }
     ensures { length result ≡ 8 }
 {
-    [
-        first,
-        first + 1,
-        first + 2,
-        first + 3,
-        first + 4,
-        first + 5,
-        first + 6,
-        first + 7,
-    ]
+    array::from_fn(|i| first + i as u8)
 }
 
 // The row of a number: five times option 31, then the number by its digits to the base 32.
@@ -37,22 +29,14 @@ impl Draft {
     pub fn slots(self, n: u8, options: u8) -> Result<Draft, AllocError>
         ensures { IfOk result (λ d. vec_len d.bytes ≡ vec_len self.bytes + 2 * n) }
     {
-        let mut draft = self;
-        for _ in 0..n {
-            draft = draft.slot(options)?;
-        }
-        Ok(draft)
+        (0..n).try_fold(self, |draft, _| draft.slot(options))
     }
 
     // So many rows more, all different up to 32,768.
     pub fn rows(self, n: u16) -> Result<Draft, AllocError>
         ensures { IfOk result (λ d. vec_len d.bytes ≡ vec_len self.bytes + 9 * n) }
     {
-        let mut draft = self;
-        for i in 0..n {
-            draft = draft.row(&numbered(i % 32768))?;
-        }
-        Ok(draft)
+        (0..n).try_fold(self, |draft, i| draft.row(&numbered(i % 32768)))
     }
 
     // So many fit sheets more, of 64 rows each.
@@ -60,11 +44,7 @@ impl Draft {
         requires { n ≤ 41 }
         ensures { IfOk result (λ d. vec_len d.bytes ≡ vec_len self.bytes + 586 * n) }
     {
-        let mut draft = self;
-        for i in 0..n {
-            draft = draft.fit(&slots_from(i))?.rows(64)?;
-        }
-        Ok(draft)
+        (0..n).try_fold(self, |draft, i| draft.fit(&slots_from(i))?.rows(64))
     }
 
     // So many bar sheets more, of 96 rows each.
@@ -72,22 +52,17 @@ impl Draft {
         requires { n ≤ 41 }
         ensures { IfOk result (λ d. vec_len d.bytes ≡ vec_len self.bytes + 874 * n) }
     {
-        let mut draft = self;
-        for i in 0..n {
-            draft = draft.bar(&slots_from(i))?.rows(96)?;
-        }
-        Ok(draft)
+        (0..n).try_fold(self, |draft, i| draft.bar(&slots_from(i))?.rows(96))
     }
 
     // A weight more for each of the 32 options at a position.
     fn weights(self, position: u8) -> Result<Draft, AllocError>
         ensures { IfOk result (λ d. vec_len d.bytes ≡ vec_len self.bytes + 160) }
     {
-        let mut draft = self;
-        for option in 0..32u8 {
-            draft = draft.weight(position, option, i16::from(option))?;
-        }
-        Ok(draft)
+        (0..32u8).try_fold(
+            self,
+            |draft, option| draft.weight(position, option, i16::from(option)),
+        )
     }
 
     // A load sheet more, with every weight that it can have.
@@ -95,11 +70,8 @@ impl Draft {
         requires { first ≤ 40 }
         ensures { IfOk result (λ d. vec_len d.bytes ≡ vec_len self.bytes + 1294) }
     {
-        let mut draft = self.load(&slots_from(first), 100)?;
-        for position in 0..8u8 {
-            draft = draft.weights(position)?;
-        }
-        Ok(draft)
+        let header = self.load(&slots_from(first), 100)?;
+        (0..8u8).try_fold(header, |draft, position| draft.weights(position))
     }
 
     // So many load sheets more, with every weight that they can have.
@@ -107,11 +79,7 @@ impl Draft {
         requires { n ≤ 41 }
         ensures { IfOk result (λ d. vec_len d.bytes ≡ vec_len self.bytes + 1294 * n) }
     {
-        let mut draft = self;
-        for i in 0..n {
-            draft = draft.load_sheet(i)?;
-        }
-        Ok(draft)
+        (0..n).try_fold(self, |draft, first| draft.load_sheet(first))
     }
 }
 

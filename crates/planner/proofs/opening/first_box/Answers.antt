@@ -6,11 +6,11 @@ use Rattle.planner.proofs.opening.first_box.Goals as goal
 pub returns-then-not-all_below : goal.returns-then-not-all_below
 returns-then-not-all_below g c =
     let w = c.args.slots.now in
-    let long : length (take w.count w.sizes) ≡ w.count = rw length-take (omega (arith, w.few.0, w.few.1)) in
-    started_dry _ w.count _ long w.few.0 _ (λ b. both_ways _ c.if-not-all_below.true (c.all_below.ensures.1 b)) c.none.ensures.none
+    let long : length (take w.count w.sizes) ≡ w.count = rw length-take (omega (arith, w.few, w.long)) in
+    started_dry _ w.count _ long w.few _ (λ b. both_ways _ c.if-not-all_below.true (c.all_below.ensures.1 b)) c.none.ensures.none
 
 pub returns : goal.returns
 returns g c =
     let w = c.args.slots.now in
-    let long : length (take w.count w.sizes) ≡ w.count = rw length-take (omega (arith, w.few.0, w.few.1)) in
-    started _ w.count _ long w.few.0 _ _ _ (c.all_below.ensures.0 c.if-not-all_below.false) c.full-slate.ensures c.settle.ensures
+    let long : length (take w.count w.sizes) ≡ w.count = rw length-take (omega (arith, w.few, w.long)) in
+    started _ w.count _ long w.few _ _ _ (c.all_below.ensures.0 c.if-not-all_below.false) c.full-slate.ensures c.settle.ensures

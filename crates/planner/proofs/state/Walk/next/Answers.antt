@@ -6,26 +6,16 @@ use Rattle.planner.proofs.state.Walk.next.Goals as goal
 pub turns-init : goal.turns-init
 turns-init g c = (turning_none _ _, refl)
 
-pub returns-then-memory-count : goal.returns-then-memory-count
-returns-then-memory-count g c = record { law = λ P L a. short_stays _ P L _ _ c.args.memory.now (omega arith) a; wrote = refl; refused = (refl, omega arith, refl); slots = refl }
+pub returns-then-memory-count-clause-law : goal.returns-then-memory-count-clause-law
+returns-then-memory-count-clause-law g c P L a = short_stays _ P L _ _ c.args.memory.now (omega arith) a
 
-pub returns-in-Spent-default : goal.returns-in-Spent-default
-returns-in-Spent-default g c = record {
-  law = λ P L a.
-      turn_spent _ _ _ _ _ c.turns.invariant.0 refl refl refl refl c.turn-outcome.ensures.law c.turn-outcome.ensures.less refl c.in-Spent-default.is-0 P L _ c.args.memory.now (omega (arith, c.if-memory-count.false)) a;
-  wrote = c.turns.invariant.1;
-  refused = omega (arith, c.if-memory-count.false);
-  slots = c.turns.invariant.0.slots;
-}
+pub returns-in-Spent-default-clause-law : goal.returns-in-Spent-default-clause-law
+returns-in-Spent-default-clause-law g c P L a =
+    turn_spent _ _ _ _ _ c.turns.invariant.0 refl refl refl refl c.turn-outcome.ensures.law c.turn-outcome.ensures.less refl c.in-Spent-default.is-0 P L _ c.args.memory.now (omega (arith, c.if-memory-count.false)) a
 
-pub returns-in_default-Empty : goal.returns-in_default-Empty
-returns-in_default-Empty g c = record {
-  law = λ P L a.
-      turn_empty _ _ _ _ _ c.turns.invariant.0 refl refl refl refl c.turn-outcome.ensures.law c.turn-outcome.ensures.less c.in_default-Empty.is-1 refl P L _ c.args.memory.now (omega (arith, c.if-memory-count.false)) a;
-  wrote = c.turns.invariant.1;
-  refused = omega (arith, c.if-memory-count.false);
-  slots = c.turns.invariant.0.slots;
-}
+pub returns-in_default-Empty-clause-law : goal.returns-in_default-Empty-clause-law
+returns-in_default-Empty-clause-law g c P L a =
+    turn_empty _ _ _ _ _ c.turns.invariant.0 refl refl refl refl c.turn-outcome.ensures.law c.turn-outcome.ensures.less c.in_default-Empty.is-1 refl P L _ c.args.memory.now (omega (arith, c.if-memory-count.false)) a
 
 pub returns-in_default-Found : goal.returns-in_default-Found
 returns-in_default-Found g c =
@@ -34,7 +24,7 @@ returns-in_default-Found g c =
     let plan = c.in_default-Found.plan in
     let long : length plan ≡ 48 = subst Long c.in_default-Found.is-1 c.turn-outcome.ensures.long in
     let wrote : c.write_plan.new.memory ≡ take count plan ++ drop count c.args.memory.now = c.write_plan.ensures ∙ ap (λ x. take count plan ++ drop count x) c.turns.invariant.1 in
-    let front : take count c.write_plan.new.memory ≡ take count plan = front_of count plan c.args.memory.now c.write_plan.new.memory (omega (arith, few.0, long)) wrote in
+    let front : take count c.write_plan.new.memory ≡ take count plan = front_of count plan c.args.memory.now c.write_plan.new.memory (omega (arith, few, long)) wrote in
     record {
       law = λ P L a.
           turn_found _ _ _ _ _ c.turns.invariant.0 refl refl refl refl c.turn-outcome.ensures.law c.turn-outcome.ensures.less _ plan c.in_default-Found.is-1 refl P L _ (omega (arith, c.if-memory-count.false)) front a;
