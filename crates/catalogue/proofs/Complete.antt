@@ -20,11 +20,11 @@ length_mid : {X : Type 0} {all : List X} (done : List X) (x : X) (left : List X)
 length_mid done x left e = sym (ap length e) ∙ length-append done (x ∷ left)
 
 -- the rows and the load sheets of two lists add up
-rows_append : (ts us : List Sheet) → rows_in (ts ++ us) ≡ rows_in ts + rows_in us
+pub rows_append : (ts us : List Sheet) → rows_in (ts ++ us) ≡ rows_in ts + rows_in us
 rows_append [] us = omega arith
 rows_append (t ∷ ts) us = omega (arith, rows_append ts us)
 
-loads_append : (ts us : List Sheet) → loads_in (ts ++ us) ≡ loads_in ts + loads_in us
+pub loads_append : (ts us : List Sheet) → loads_in (ts ++ us) ≡ loads_in ts + loads_in us
 loads_append [] us = omega arith
 loads_append (t ∷ ts) us = omega (arith, loads_append ts us)
 

@@ -33,6 +33,7 @@ fn entries_end(bytes: &[u8], from: usize) -> usize
     ensures { (to : ℕ) → Entries bytes.now from to → result ≡ to }
 {
     let mut at = from;
+    // A `while` is plainer here: only the record at a place says where the next one begins.
     while let Some(kind) = entry_at(bytes, at) {
         at += kind.len();
     }

@@ -8,6 +8,7 @@ use Rattle.catalogue.specs.declared.make.Make.TheVariants.{Fit, Bar, Load}
 use Rattle.checker.specs.declared.progress.Newest.{Newest as NewestSheet}
 use Rattle.catalogue.specs.Content.{Sheet, Weight, rows_in, loads_in, is_one, place, places}
 use Rattle.catalogue.specs.Records.{header_size}
+use Rattle.catalogue.proofs.Complete.{rows_append, loads_append}
 use Rattle.catalogue.specs.Checks.{listed, has_list, well_filled, well_sized, well_scoped, scope_of, well_weighed, weight_of, is_load, takes_rows, takes_weights, scope_in, rows_of, places_of, add_row, add_weight, fresh}
 use Rattle.checker.specs.Model.{Part, parts_from, head_len, row_read, weight_read, scope_read}
 use Rattle.checker.specs.Steps.{Newest, Held, loads_with, step_of, key_len, keys_of}
@@ -17,15 +18,6 @@ pub still_none : (bs : List ℕ) (at to : ℕ) (m : Option NewestSheet) (o : Opt
 still_none bs at to None None e h = tt
 still_none bs at to None (Some t) e h = h
 still_none bs at to (Some m) o e h = let z : ◌≡◌ {A = ℕ} 0 1 = cc in absurd (omega arith)
-
--- the counts of a list of sheets with more behind it
-pub rows_append : (xs ys : List Sheet) → rows_in (xs ++ ys) ≡ rows_in xs + rows_in ys
-rows_append [] ys = omega arith
-rows_append (x ∷ xs) ys = omega (arith, rows_append xs ys)
-
-pub loads_append : (xs ys : List Sheet) → loads_in (xs ++ ys) ≡ loads_in xs + loads_in ys
-loads_append [] ys = omega arith
-loads_append (x ∷ xs) ys = omega (arith, loads_append xs ys)
 
 -- the newest sheet with a row more
 pub record RowMore (xs : List Sheet) (o : Option Sheet) (b : List ℕ) : Type 0 where

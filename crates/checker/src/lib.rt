@@ -28,6 +28,7 @@ fn verify(bytes: &[u8]) -> Result<Counts, Fault>
 {
     let mut progress = Progress::new();
     let mut at = 0;
+    // A `loop` is plainer here: only the record at a place says where the next one begins.
     'records: loop {
         match entry(bytes, at)? {
             Entry::Slot(body) => {
