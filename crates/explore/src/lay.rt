@@ -4,7 +4,8 @@ ghost use Rattle.explore.specs.Laid.{Entry, Laid};
 use boxes::{OPTIONS, OptionBox};
 use std::array;
 
-// The lowest open option of each slot, and 32 where a slot has none.
+// The lowest open option of each slot. A plan is a table of fixed length, as memory is fixed: a slot with no option has 32
+// there, which nothing reads.
 pub(crate) fn lay(slate: &OptionBox) -> [u8; 48]
     ensures { Laid slate.now.cells result 48 }
 {
