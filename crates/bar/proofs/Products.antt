@@ -1,7 +1,7 @@
 -- The product of the other sizes, factor by factor. Assumes nothing.
-use Rattle.std.proofs.Common.{◌≡◌, ℕ, zero, suc, ◌+◌, ◌*◌, ◌^◌, ◌<◌, ◌≤◌, List, [], ◌∷◌, length, get_or, take, drop, set, sym, refl, ap, ◌∙◌, subst, mul_assoc, one-mul, mul-one, arith, length-set, get_or-set_other, get_or-set_same}
+use Rattle.std.proofs.Common.{◌≡◌, ℕ, zero, suc, ◌+◌, ◌*◌, ◌^◌, ◌<◌, ◌≤◌, List, [], ◌∷◌, length, get_or, take, drop, set, sym, refl, ap, ◌∙◌, subst, mul_assoc, one-mul, arith, length-set, get_or-set_other, get_or-set_same}
 use native.Mathlib.Nat.{pow-le-pow_right}
-use Rattle.std.proofs.lemmas.List.{at_drop_more, at_drop_all}
+use Rattle.std.proofs.lemmas.List.{at_drop_more}
 use Rattle.std.proofs.lemmas.Nat.{mul-le, pow-add}
 use Rattle.bar.specs.Counted.{product}
 
@@ -41,10 +41,6 @@ module _ (sizes : List ℕ) (position place many : ℕ) (h : place < length size
 
   pub fits : length sizes ≡ 8 → get_or sizes place 0 ≤ 32 → many * get_or sizes place 0 ≤ 2 ^ 40
   fits long low = omega (arith, times many (get_or sizes place 0) place was.low low, small place (omega arith))
-
-pub multiplied_all : (sizes : List ℕ) (position many : ℕ) → Multiplied sizes position (length sizes) many → many ≡ product (set sizes position 1)
-multiplied_all sizes position many m =
-    sym (ap (λ n. many * n) (at_drop_all product (set sizes position 1) (length sizes) (simp length-set (omega arith))) ∙ mul-one many) ∙ m.product
 
 -- sizes that are 1 from some place on: the first of them have the same product
 product_ones : (xs : List ℕ) → ((p : ℕ) → p < length xs → get_or xs p 0 ≡ 1) → product xs ≡ 1

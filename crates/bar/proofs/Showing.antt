@@ -11,6 +11,8 @@ use Rattle.catalogue.specs.Law.{Octets}
 use Rattle.catalogue.specs.Verdict.{content, accepts}
 use Rattle.catalogue.specs.Views.{is_make, Shown as Seen, showing}
 use Rattle.binder.specs.Meaning.{Binding, Held, Shown}
+use Rattle.sheets.specs.declared.sheet.Sheet.{Sheet as TakenSheet}
+use Rattle.sheets.specs.Opened.{shown_of}
 use Rattle.sheets.specs.Closing.{Narrowed, shorter}
 use Rattle.sheets.specs.Rules.{Fresh, scope_at, admits_at}
 use Rattle.sheets.specs.Tables.{Taken, shown_in, shown_at, sheets_in}
@@ -21,7 +23,7 @@ use Rattle.binder.specs.declared.marks.Marks.{Marks}
 use Rattle.bar.specs.declared.bars.Bar.{Bar}
 use Rattle.bar.specs.Tally.{Spared, Backs}
 use Rattle.bar.specs.Bars.{keeps, barring}
-use Rattle.bar.specs.Proper.{GoodBar, scope_there, is_true}
+use Rattle.bar.specs.Proper.{GoodBar, good_at, scope_there, is_true}
 use Rattle.bar.proofs.Rows.{free_kept, kept_free, keeps_admits}
 
 is_t : (b : Bool) → b ≡ true → T b
@@ -84,6 +86,10 @@ shown views n marks s v l e good b c masks eight k h =
       marks = refl;
       marked = λ i t x. refl;
     }
+
+-- what holds of a sheet that is taken out of a binder
+pub good_sheet : (x : Bar) (t : TakenSheet) (s : ℕ) → (s < x.sheets.count) × (shown_of t ≡ shown_at x.sheets.views s) → GoodBar (shown_of t)
+good_sheet x t s h = subst GoodBar (sym h.1) (good_at x.sheets.make x.sheets.views x.sheets.count x.bars x.sheets.taken x.sheets.few x.sheets.long s h.0)
 
 -- a binder with the same marks is the same
 pub same_marks : (x : Bar) (marks : Marks) (bars : is_make BarMake x.sheets.make ≡ true) → marks ≡ x.marks → ◌≡◌ {A = Bar} (record { sheets = x.sheets; marks = marks; bars = bars }) x

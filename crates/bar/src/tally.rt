@@ -33,6 +33,7 @@ impl Sizes {
 
     // How many lists fit the box and have a given open option at a position: the product of the other sizes,
     // which is 0 where another slot has no open option.
+    #[tactic(auto, using(crate::proofs::Products::fits))]
     fn others(&self, position: usize) -> u64
         ensures { result ≡ product (slice_set self.now.each position 1) }
     {
@@ -47,6 +48,7 @@ impl Sizes {
 }
 
 // The options that are counted fewer than `many` times.
+#[tactic(auto, using(crate::proofs::Passes::marks_none, crate::proofs::Passes::marks_yes, crate::proofs::Passes::marks_no))]
 fn mask_of(counts: &[u32; 32], many: u64) -> u32
     ensures { Marks (Fewer counts.now many) 32 result }
 {
@@ -89,6 +91,7 @@ impl Tally {
     }
 
     // Counts a row once at each position, under the option that it has there.
+    #[tactic(auto, using(crate::proofs::Passes::tallied_more))]
     fn add(&mut self, options: &[u8])
         requires short { length options.now ≤ 8 }
         requires low { (p : ℕ) → p < length options.now → slice_index options.now p < 32 }

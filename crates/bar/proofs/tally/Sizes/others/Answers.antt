@@ -1,12 +1,7 @@
 use Rattle.std.proofs.Common.{arith}
-use Rattle.bar.proofs.Products.{multiplied_more, multiplied_same, fits}
+use Rattle.bar.proofs.Products.{multiplied_more, multiplied_same}
 use Rattle.bar.proofs.tally.Sizes.others.Goals as goal
 use Rattle.bar.proofs.tally.Sizes.others.Goals.{then-place-position, else-place-position}
-
-pub overflow_mul-many : goal.overflow_mul-many
-overflow_mul-many c =
-    let s = c.args.self.now in
-    omega (arith, fits s.each c.args.position c.loop-place.place c.loop-place.many (omega arith) c.loop-place.invariant s.long (s.low c.loop-place.place (omega arith)))
 
 pub loop-place-preserved : goal.loop-place-preserved
 loop-place-preserved c =
