@@ -23,21 +23,26 @@ impl<B: Binder> Session<B> {
 
     // Replies to one line after another, as many as there are both lines and replies. A line is a call, or none
     // where it has another form.
-    pub fn run(self, lines: &[Option<Call>], replies: &mut [Reply], memory: &mut [u8]) -> Session<B>
+    pub fn run(
+        mut self,
+        lines: &[Option<Call>],
+        replies: &mut [Reply],
+        memory: &mut [u8],
+    ) -> Session<B>
         ensures law { (P : Problem) (L : Log) → Held B.Binder.meaning P L self → Ran B.Binder.meaning P L lines.now replies.new (min (length lines.now) (length replies.old)) (length memory.old) result }
         ensures kept { Kept (min (length lines.now) (length replies.old)) replies.old replies.new memory.old memory.new }
     {
-        let mut session = self;
         let count = lines.len().min(replies.len());
+        // A reply is written by its number: of what is written through `iter_mut` a proof knows nothing.
         for (at, line) in lines[..count].iter().enumerate() {
-            replies[at] = if session.crosses(*line) {
-                session = session.cross();
+            replies[at] = if self.crosses(*line) {
+                self = self.cross();
                 Ok(Answer::Done)
             } else {
-                session.reply(*line, memory)
+                self.reply(*line, memory)
             };
         }
-        session
+        self
     }
 }
 

@@ -18,12 +18,12 @@ loop-at-preserved g c =
     let below : at < count = omega (arith, length-take count lines, c.loop-at-test.true) in
     let room : at < length c.loop-at.replies = omega (arith, c.min-count.ensures, c.loop-at.auto.replies) in
     let line : get_or (take count lines) at None ≡ get_or lines at None = get_or-take count lines at None below in
-    let more : Replied g.B.Binder.meaning (get_or lines at None) c.if-crosses.replies c.loop-at.session c.if-crosses.session c.loop-at.memory c.if-crosses.memory =
+    let more : Replied g.B.Binder.meaning (get_or lines at None) c.if-crosses.replies c.loop-at.self c.if-crosses.self c.loop-at.memory c.if-crosses.memory =
     elim c.if-crosses.branch [
-      | then-crosses w ↦ rw (w.memory-is, w.session-is, w.replies-is) (w.cross-session.ensures _ _ (rw line at (c.crosses.ensures.0 w.if-crosses.true)))
+      | then-crosses w ↦ rw (w.memory-is, w.self-is, w.replies-is) (w.cross-self.ensures _ _ (rw line at (c.crosses.ensures.0 w.if-crosses.true)))
       | else-crosses w ↦
           let given = rw line at w.reply.ensures in
-          rw (w.memory-is, w.session-is, w.replies-is) (given (λ x. both_ways _ w.if-crosses.false (c.crosses.ensures.1 (rw (← line) at x))))
+          rw (w.memory-is, w.self-is, w.replies-is) (given (λ x. both_ways _ w.if-crosses.false (c.crosses.ensures.1 (rw (← line) at x))))
     ] in
     running_more _ _ at _ _ _ _ _ _ _ _ _ c.loop-at.invariant room more c.if-crosses.auto.memory
 
