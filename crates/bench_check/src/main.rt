@@ -40,9 +40,14 @@ fn worth(answer: Result<Counts, Fault>) -> u64 {
     }
 }
 
-fn bench(rt: &HostRuntime, name: &str, file: Draft, place: usize, rounds: u32) -> io::Result<()> {
+fn bench(
+    rt: &HostRuntime,
+    name: &str,
+    mut file: Draft,
+    place: usize,
+    rounds: u32,
+) -> io::Result<()> {
     let size = file.as_slice().len();
-    let mut file = file;
     let mut answer = checked(file.as_slice());
     let mut sum = worth(answer);
     for round in 1..rounds {

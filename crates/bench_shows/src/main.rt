@@ -14,23 +14,16 @@ use std::{env, io};
 
 // The box with every option of 48 slots open but one.
 fn all_but(slot: usize, option: u8) -> OptionBox {
-    let mut slate = OptionBox::none();
-    for s in 0..48usize {
-        for o in 0..32u8 {
-            slate.open(s, o);
-        }
-    }
+    let mut slate = OptionBox::full(&[32; 48]);
     slate.close(slot, option);
     slate
 }
 
 // A number that depends on all cells.
 fn digest(slate: &OptionBox, before: u32) -> u32 {
-    let mut sum = before;
-    for s in 0..48usize {
-        sum = sum.wrapping_mul(31).wrapping_add(slate.cells[s]);
-    }
-    sum
+    slate.cells.iter().fold(before, |sum, cell| {
+        sum.wrapping_mul(31).wrapping_add(*cell)
+    })
 }
 
 // Shows every sheet a box once, and answers how many were shown and the digest.
@@ -60,9 +53,7 @@ fn rounds<B: Binder>(rt: &HostRuntime, what: &str, binder: &mut B, n: u32) -> io
 
 // The first argument, or 3.
 fn count(rt: &HostRuntime) -> anyhow::Result<u32> {
-    let mut args = env::args(rt)?;
-    let _ = args.next();
-    match args.next() {
+    match env::args(rt)?.nth(1) {
         Some(word) => Ok(word.as_str().parse::<u32>()?),
         None => Ok(3),
     }

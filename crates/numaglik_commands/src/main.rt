@@ -9,49 +9,17 @@ use catalogue::checked::Catalogue;
 use checker::check;
 use commands::lines::{Lines, whole_lines};
 use commands::parse::parse;
+use input::first_bytes_of_file;
 use planner::state::Planner;
 use session::state::Session;
-use std::fs::File;
 use std::io;
-use std::io::{ErrorKind, Read};
+use std::io::Read;
 use subject::answer::Reply;
 use subject::call::Call;
 use subject::denial::Denial;
 
 // How much is read at most, of the file and of standard input. An accepted catalogue is shorter.
 const LIMIT: usize = 65536;
-
-// Fills `to` from its front as far as the input goes, and answers how many bytes came.
-fn fill<R: Read>(from: &mut R, to: &mut Vec<u8>) -> io::Result<usize>
-    ensures within { IfOk result (λ n. n ≤ vec_len to.new) }
-    ensures long { vec_len to.new ≡ vec_len to.old }
-{
-    let mut at = 0;
-    'parts: while at < to.len() {
-        let n = from.read(&mut to[at..])?;
-        if n == 0 {
-            break;
-        }
-        at += n;
-    }
-    Ok(at)
-}
-
-// Fills `to` from the file, which counts as empty where it is missing.
-fn fill_from_file(rt: &HostRuntime, to: &mut Vec<u8>) -> io::Result<usize>
-    ensures within { IfOk result (λ n. n ≤ vec_len to.new) }
-{
-    match File::open(rt, "catalogue") {
-        Ok(mut file) => fill(&mut file, to),
-        Err(e) => {
-            if e.kind() == ErrorKind::NotFound {
-                Ok(0)
-            } else {
-                Err(e)
-            }
-        }
-    }
-}
 
 // The calls that the lines of some input make.
 fn calls_in(rt: &HostRuntime, input: &[u8]) -> anyhow::Result<Vec<Option<Call>>> {
@@ -122,10 +90,9 @@ fn serve<B: Binder + Drop>(rt: &HostRuntime, planner: Planner<B>) -> anyhow::Res
 }
 
 fn run(rt: &HostRuntime) -> anyhow::Result<()> {
-    let mut memory = Vec::from_elem(rt.alloc(), 0u8, LIMIT)?;
-    let n = fill_from_file(rt, &mut memory)?;
+    let file = first_bytes_of_file(rt, "catalogue", LIMIT)?;
     let mut catalogue = Catalogue::built_in();
-    match check(&memory[0..n], &mut catalogue) {
+    match check(file.as_slice(), &mut catalogue) {
         Ok(counts) => {
             println!(rt; "{counts}")?;
             serve(rt, plain::open(&catalogue))

@@ -1,16 +1,16 @@
 // Shows a binder's sheets every small box, and counts where it differs from plain enumeration.
-use crate::reckon::{reckoned, same};
+use crate::reckon::Sheet;
 use binder::binders::Binder;
 use boxes::OptionBox;
 use catalogue::checked::Catalogue;
 use catalogue::make::Make;
-use catalogue::view::View;
+use std::fmt;
 
 // The boxes of three slots with three, three and two options: a bit for each option.
 const BOXES: u16 = 256;
 
 // What was compared, and what differed.
-#[derive(Clone, Copy)]
+#[derive(Clone, Copy, Default)]
 pub struct Tally {
     pub sheets: u32,
     pub showings: u32,
@@ -18,14 +18,6 @@ pub struct Tally {
 }
 
 impl Tally {
-    pub fn new() -> Tally {
-        Tally {
-            sheets: 0,
-            showings: 0,
-            differences: 0,
-        }
-    }
-
     fn note(&mut self, good: bool) {
         self.showings = self.showings.wrapping_add(1);
         if !good {
@@ -34,45 +26,41 @@ impl Tally {
     }
 }
 
-fn slot_of(bit: u8) -> usize {
-    if bit < 3 {
-        0
-    } else if bit < 6 {
-        1
-    } else {
-        2
+impl fmt::Display for Tally {
+    fn fmt<W: fmt::Write>(&self, f: &mut fmt::Formatter<W>) -> fmt::Result {
+        let sheets = self.sheets;
+        let showings = self.showings;
+        let differences = self.differences;
+        write!(
+            f,
+            "{sheets} sheets, {showings} showings, {differences} differences"
+        )
     }
 }
 
+// The box of a number: its bits are the options 0 to 2 of the slots 0 and 1, and 0 and 1 of slot 2.
 fn box_of(number: u16) -> OptionBox {
     let mut slate = OptionBox::none();
     for bit in 0..8u8 {
         if (number >> bit) & 1 == 1 {
-            slate.open(slot_of(bit), bit % 3);
+            slate.open(usize::from(bit / 3), bit % 3);
         }
     }
     slate
 }
 
 // Shows one sheet one box, then the box that is left with one option less, and takes both back.
-fn one_box<B: Binder>(
-    binder: &mut B,
-    sheet: usize,
-    make: Make,
-    view: &View,
-    number: u16,
-    tally: &mut Tally,
-) {
+fn one_box<B: Binder>(binder: &mut B, at: usize, sheet: &Sheet, number: u16, tally: &mut Tally) {
     let mut slate = box_of(number);
     let marked = binder.mark().is_ok();
-    let first = reckoned(make, view, &slate);
-    let shown = binder.show(sheet, &mut slate).is_ok();
-    tally.note(marked && shown && same(&slate, &first));
+    let first = sheet.reckoned(&slate);
+    let shown = binder.show(at, &mut slate).is_ok();
+    tally.note(marked && shown && slate.cells == first.cells);
     slate.close((number % 3) as usize, (number / 3 % 3) as u8);
-    let second = reckoned(make, view, &slate);
-    let shown = binder.show(sheet, &mut slate).is_ok();
+    let second = sheet.reckoned(&slate);
+    let shown = binder.show(at, &mut slate).is_ok();
     let undone = binder.undo().is_ok();
-    tally.note(undone && shown && same(&slate, &second));
+    tally.note(undone && shown && slate.cells == second.cells);
 }
 
 // Shows all sheets of a make every box. In the binder they begin at `from`.
@@ -82,19 +70,13 @@ pub fn every_box<B: Binder>(
     catalogue: &Catalogue,
     make: Make,
 ) -> Tally {
-    let mut tally = Tally::new();
+    let mut tally = Tally::default();
     for i in 0..catalogue.sheet_count(make) {
         if let Some(view) = catalogue.sheet(make, i) {
             tally.sheets = tally.sheets.wrapping_add(1);
+            let sheet = Sheet { make, view };
             for number in 0..BOXES {
-                one_box(
-                    binder,
-                    from.wrapping_add(i),
-                    make,
-                    &view,
-                    number,
-                    &mut tally,
-                );
+                one_box(binder, from.wrapping_add(i), &sheet, number, &mut tally);
             }
         }
     }

@@ -16,10 +16,7 @@ use load::Load;
 use std::io;
 
 fn tell(rt: &HostRuntime, what: &str, tally: Tally) -> io::Result<()> {
-    let sheets = tally.sheets;
-    let showings = tally.showings;
-    let differences = tally.differences;
-    println!(rt; "{what}: {sheets} sheets, {showings} showings, {differences} differences")
+    println!(rt; "{what}: {tally}")
 }
 
 // Each make by itself.

@@ -4,131 +4,96 @@ use boxes::OptionBox;
 use catalogue::make::Make;
 use catalogue::view::View;
 
-// How many positions and options are looked at.
-pub const POSITIONS: usize = 3;
-
-pub const OPTIONS: u8 = 4;
+// How many options of a slot are looked at.
+const OPTIONS: u8 = 4;
 
 // How many lists there are: one option of four for each of three positions.
 const LISTS: u8 = 64;
 
-fn byte(bytes: &[u8], i: usize) -> u8 {
-    match bytes.get(i) {
-        Some(b) => *b,
-        None => 0xFF,
-    }
-}
+// How many bytes a row and a weight have, each with its byte of kind.
+const ROW: usize = 9;
+
+const WEIGHT: usize = 5;
+
+// An option for each position of a scope; a shorter scope takes the first ones.
+type List = [u8; 3];
 
 // A list by its number, whose digits to the base four are the options.
-fn option_of(list: u8, position: usize) -> u8 {
-    match position {
-        0 => list % 4,
-        1 => list / 4 % 4,
-        _ => list / 16 % 4,
-    }
+fn list_of(number: u8) -> List {
+    [number % 4, number / 4 % 4, number / 16 % 4]
 }
 
-fn is_row(view: &View, row: usize, list: u8) -> bool {
-    let first = row.wrapping_mul(9).wrapping_add(1);
-    for position in 0..POSITIONS {
-        if position < view.scope.len() {
-            let option = byte(view.entries, first.wrapping_add(position));
-            if option != option_of(list, position) {
-                return false;
-            }
-        }
-    }
-    true
+// A sheet as the catalogue shows it.
+#[derive(Clone, Copy)]
+pub struct Sheet<'a> {
+    pub make: Make,
+    pub view: View<'a>,
 }
 
-fn has_row(view: &View, list: u8) -> bool {
-    for row in 0..view.entries.len() / 9 {
-        if is_row(view, row, list) {
-            return true;
-        }
+impl<'a> Sheet<'a> {
+    fn has_row(&self, list: &List) -> bool {
+        let arity = self.view.scope.len();
+        self.view.entries.chunks(ROW).any(|row| {
+            row.iter()
+                .skip(1)
+                .zip(list)
+                .take(arity)
+                .all(|(held, option)| held == option)
+        })
     }
-    false
-}
 
-// What an option weighs at a position; 0 where no weight is given.
-fn weight_of(view: &View, position: usize, option: u8) -> i16 {
-    for i in 0..view.entries.len() / 5 {
-        let at = i.wrapping_mul(5);
-        let here = byte(view.entries, at.wrapping_add(1)) as usize;
-        let of = byte(view.entries, at.wrapping_add(2));
-        if here == position && of == option {
-            let low = byte(view.entries, at.wrapping_add(3));
-            let high = byte(view.entries, at.wrapping_add(4));
-            return i16::from_le_bytes([low, high]);
-        }
-    }
-    0
-}
-
-fn total(view: &View, list: u8) -> i32 {
-    let mut sum = 0i32;
-    for position in 0..POSITIONS {
-        if position < view.scope.len() {
-            let weight = weight_of(view, position, option_of(list, position));
-            sum = sum.wrapping_add(i32::from(weight));
-        }
-    }
-    sum
-}
-
-fn admitted(make: Make, view: &View, list: u8) -> bool {
-    match make {
-        Make::Fit => has_row(view, list),
-        Make::Bar => !has_row(view, list),
-        Make::Load => total(view, list) <= view.cap,
-    }
-}
-
-fn fits(view: &View, slate: &OptionBox, list: u8) -> bool {
-    for position in 0..POSITIONS {
-        if position < view.scope.len() {
-            let slot = view.scope[position] as usize;
-            if !slate.is_open(slot, option_of(list, position)) {
-                return false;
-            }
-        }
-    }
-    true
-}
-
-fn supported(make: Make, view: &View, slate: &OptionBox, position: usize, option: u8) -> bool {
-    for list in 0..LISTS {
-        if option_of(list, position) == option {
-            if fits(view, slate, list) && admitted(make, view, list) {
-                return true;
-            }
-        }
-    }
-    false
-}
-
-// The box with the options of the scope closed that have no support.
-pub fn reckoned(make: Make, view: &View, slate: &OptionBox) -> OptionBox {
-    let mut left = *slate;
-    for position in 0..POSITIONS {
-        if position < view.scope.len() {
-            let slot = view.scope[position] as usize;
-            for option in 0..OPTIONS {
-                if !supported(make, view, slate, position, option) {
-                    left.close(slot, option);
+    // What an option weighs at a position; 0 where no weight is given.
+    fn weight_of(&self, position: usize, option: u8) -> i16 {
+        for weight in self.view.entries.chunks(WEIGHT) {
+            if let [_, here, of, low, high] = weight {
+                if usize::from(*here) == position && *of == option {
+                    return i16::from_le_bytes([*low, *high]);
                 }
             }
         }
+        0
     }
-    left
-}
 
-// Whether two boxes open the same options.
-pub fn same(a: &OptionBox, b: &OptionBox) -> bool {
-    for slot in 0..48usize {
-        if a.cells[slot] != b.cells[slot] {
-            return false;
+    fn total(&self, list: &List) -> i32 {
+        list.iter()
+            .enumerate()
+            .take(self.view.scope.len())
+            .fold(0i32, |sum, (position, option)| {
+                sum.wrapping_add(i32::from(self.weight_of(position, *option)))
+            })
+    }
+
+    fn admits(&self, list: &List) -> bool {
+        match self.make {
+            Make::Fit => self.has_row(list),
+            Make::Bar => !self.has_row(list),
+            Make::Load => self.total(list) <= self.view.cap,
         }
     }
-    true
+
+    fn fits(&self, slate: &OptionBox, list: &List) -> bool {
+        self.view.scope.iter().zip(list).all(|(slot, option)| slate.is_open(
+            usize::from(*slot),
+            *option,
+        ))
+    }
+
+    fn supports(&self, slate: &OptionBox, position: usize, option: u8) -> bool {
+        (0..LISTS).map(list_of).any(|list| {
+            list.get(position) == Some(&option) && self.fits(slate, &list) && self.admits(&list)
+        })
+    }
+
+    // The box with the options of the scope closed that have no support.
+    pub fn reckoned(&self, slate: &OptionBox) -> OptionBox {
+        let mut left = *slate;
+        for (position, slot) in self.view.scope.iter().enumerate() {
+            for option in 0..OPTIONS {
+                if !self.supports(slate, position, option) {
+                    left.close(usize::from(*slot), option);
+                }
+            }
+        }
+        left
+    }
 }
