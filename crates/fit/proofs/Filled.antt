@@ -1,8 +1,10 @@
 -- The runs of places as they are first laid. Assumes nothing.
-use Rattle.std.proofs.Common.{◌≡◌, ℕ, zero, suc, ◌+◌, ◌<◌, ◌≤◌, List, length, get_or, set, replicate, sym, refl, ap, ◌∙◌, subst, ⊎_elim, add-one, arith, length-set, get_or-set_other, get_or-set_same}
+use Rattle.std.proofs.Common.{◌≡◌, ℕ, zero, suc, ◌+◌, ◌<◌, ◌≤◌, List, length, get_or, set, replicate, sym, refl, ap, ◌∙◌, subst, ⊎_elim, add-one, arith, length-set, get_or-set_other, get_or-set_same, below_more}
+use borrow.Rule.Slice.PartMut.{mid_of, put_mid}
 use Rattle.std.proofs.lemmas.Bool.{cases_eq}
 use Rattle.catalogue.specs.declared.view.View.{View}
-use Rattle.fit.specs.Laid.{row_count, rows_before, Each, Apart, Run, Runs}
+use Rattle.fit.specs.Laid.{row_count, rows_before, Each, Apart, Numbered, Runs}
+use Rattle.fit.proofs.Sifting.{lies_mid, replaced_mid}
 
 -- a table filled entry by entry
 pub each_none : (f : ℕ → ℕ) → Each f (replicate 64 0) 0
@@ -36,19 +38,26 @@ pub before_next : (views : List View) (s t : ℕ) → s < t → rows_before view
 before_next views s t h = before_up views (suc s) t h
 
 -- one run
-pub run_more : (xs ys : List ℕ) (from k : ℕ) → from + k < length ys → Run xs ys from k → Run xs (set ys (from + k) k) from (k + 1)
-run_more xs ys from k lt x =
+pub numbered_more : (xs ys : List ℕ) (k : ℕ) → k < length xs → ys ≡ set xs k k → Numbered xs k → Numbered ys (k + 1)
+numbered_more xs ys k lt e x =
     record {
-      here = λ p h.
-          ⊎_elim
-          (λ e. ap (λ i. get_or (set ys (from + k) k) (from + i) 0) e ∙ get_or-set_same ys (from + k) k 0 lt ∙ sym e)
-          (λ ne. get_or-set_other ys (from + k) (from + p) k 0 (λ e. ne (omega arith)) ∙ x.here p (omega arith))
-          (cases_eq p k);
-      under = λ p h. get_or-set_other ys (from + k) p k 0 (λ e. omega arith) ∙ x.under p h;
+      each = below_more (λ p. get_or ys p 0 ≡ p) k
+          (λ p h. ap (λ l. get_or l p 0) e ∙ get_or-set_other xs k p k 0 (λ q. omega arith) ∙ x.each p h)
+          (ap (λ l. get_or l k 0) e ∙ get_or-set_same xs k k 0 lt);
     }
 
+-- a run that lies from `from` on, and places under it that are as they were
+pub record Run (xs ys : List ℕ) (from n : ℕ) : Type 0 where
+  pub here : (p : ℕ) → p < n → get_or ys (from + p) 0 ≡ p
+  pub under : (p : ℕ) → p < from → get_or ys p 0 ≡ get_or xs p 0
+
+pub run_laid : (xs next : List ℕ) (from k n : ℕ) → k ≡ n → from + n ≤ length xs → length next ≡ n → Numbered next n → Run xs (put_mid from k xs next) from n
+run_laid xs next from k n e h long x =
+    let r = replaced_mid xs next from k n e h long in
+    record { here = λ p lt. r.is.at p lt ∙ x.each p lt; under = r.under }
+
 -- one run after another
-pub runs_more : (starts counts order next : List ℕ) (k n : ℕ) → k < n → Apart starts counts n → Run order next (get_or starts k 0) (get_or counts k 0) → Runs starts counts order k → Runs starts counts next (k + 1)
+runs_more : (starts counts order next : List ℕ) (k n : ℕ) → k < n → Apart starts counts n → Run order next (get_or starts k 0) (get_or counts k 0) → Runs starts counts order k → Runs starts counts next (k + 1)
 runs_more starts counts order next k n lt a r x =
     record {
       each = λ s p h q.
@@ -57,3 +66,12 @@ runs_more starts counts order next k n lt a r x =
           (λ ne. let l : s < k = omega arith in r.under (get_or starts s 0 + p) (omega (arith, a.apart s k l lt)) ∙ x.each s p l q)
           (cases_eq s k);
     }
+
+pub runs_next : (starts counts order next : List ℕ) (i m n from k count : ℕ) → i < n → Apart starts counts n → from ≡ get_or starts i 0 → count ≡ get_or counts i 0 → m ≡ i + 1 → k ≡ count → length order ≡ 4096
+    → length next ≡ length (mid_of from k order) → Numbered next (length (mid_of from k order)) → Runs starts counts order i → Runs starts counts (put_mid from k order next) m
+runs_next starts counts order next i m n from k count lt a at is one e room long x runs =
+    let fits : from + count ≤ length order = omega (arith, a.room i lt) in
+    let mid : length (mid_of from k order) ≡ count = (lies_mid order from k count e fits).long in
+    let run : Run order (put_mid from k order next) from count = run_laid order next from k count e fits (long ∙ mid) (subst (Numbered next) mid x) in
+    subst (Runs starts counts (put_mid from k order next)) (sym one)
+    (runs_more starts counts order (put_mid from k order next) i n lt a (subst (Run order (put_mid from k order next) (get_or starts i 0)) is (subst (λ f. Run order (put_mid from k order next) f count) at run)) runs)

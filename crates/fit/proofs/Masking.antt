@@ -1,5 +1,5 @@
 -- Masks gathered row by row. Assumes nothing.
-use Rattle.std.proofs.Common.{◌≡◌, ℕ, ◌+◌, ◌-◌, ◌*◌, ◌/◌, ◌%◌, ◌^◌, ◌<◌, ◌≤◌, List, get_or, set, replicate, sym, refl, ap, ◌∙◌, subst, ⊎_elim, one-mul, arith, length-set, get_or-set_other, get_or-set_same, below_more}
+use Rattle.std.proofs.Common.{◌≡◌, ℕ, ◌+◌, ◌-◌, ◌*◌, ◌/◌, ◌%◌, ◌^◌, ◌<◌, ◌≤◌, List, length, get_or, set, replicate, sym, refl, ap, ◌∙◌, subst, ⊎_elim, one-mul, arith, length-set, get_or-set_other, get_or-set_same, below_more}
 use native.Mathlib.Nat.{div-eq_of_lt, mul-mod_left, zero-div}
 use lib.Bits.{bit_or}
 use lib.ListN.{get_or-replicate}
@@ -7,7 +7,8 @@ use Rattle.std.proofs.lemmas.Nat.{or_comm, or_shr, or_mod, shl-shr, pow-add, pow
 use Rattle.std.proofs.lemmas.Bool.{cases_eq, cases_order, cases_lt}
 use Rattle.boxes.specs.Boxes.{Open, Bit}
 use Rattle.boxes.proofs.Bits.{bit}
-use Rattle.fit.specs.Rows.{option_at, Backed, Mask, Gathered}
+use Rattle.sheets.specs.Tables.{option_at}
+use Rattle.fit.specs.Rows.{Backed, Mask, Gathered}
 
 -- the bits of a power of two
 bit_here : (o : ℕ) → bit (2 ^ o) o ≡ 1
@@ -67,25 +68,25 @@ unfolding Open Bit
 open_bit b s o mask e h = ap (λ n. bit n o) e ∙ h.1
 
 -- the positions before p are done, and those from p on are blank
-pub record Gathering (b scope order entries masks : List ℕ) (from n p : ℕ) : Type 0 where
-  pub done : Gathered b scope order entries masks from n p
+pub record Gathering (b scope rows entries masks : List ℕ) (p : ℕ) : Type 0 where
+  pub done : Gathered b scope rows entries masks p
   pub blank : (q : ℕ) → p ≤ q → q < 8 → get_or masks q 0 ≡ 0
 
 -- and at p the first `place` rows are gathered
-pub record Filling (b scope order entries masks : List ℕ) (from n p place : ℕ) : Type 0 where
-  pub done : Gathered b scope order entries masks from n p
-  pub here : Mask b scope order entries from place p (get_or masks p 0)
+pub record Filling (b scope rows entries masks : List ℕ) (p place : ℕ) : Type 0 where
+  pub done : Gathered b scope rows entries masks p
+  pub here : Mask b scope rows entries place p (get_or masks p 0)
   pub blank : (q : ℕ) → p < q → q < 8 → get_or masks q 0 ≡ 0
 
-module _ (b scope order entries : List ℕ) (from n : ℕ) where
-  pub gathering_none : Gathering b scope order entries (replicate 8 0) from n 0
+module _ (b scope rows entries : List ℕ) where
+  pub gathering_none : Gathering b scope rows entries (replicate 8 0) 0
   gathering_none =
       record {
         done = record { long = refl; each = λ p h. absurd (omega arith) };
         blank = λ q h k. get_or-replicate 8 q 0 0 k;
       }
 
-  pub filling_none : (masks : List ℕ) (p : ℕ) → p < 8 → Gathering b scope order entries masks from n p → Filling b scope order entries masks from n p 0
+  pub filling_none : (masks : List ℕ) (p : ℕ) → p < 8 → Gathering b scope rows entries masks p → Filling b scope rows entries masks p 0
   filling_none masks p lt g =
       record {
         done = g.done;
@@ -96,11 +97,11 @@ module _ (b scope order entries : List ℕ) (from n : ℕ) where
         blank = λ q h. g.blank q (omega arith);
       }
 
-  backed_more : (m k p o : ℕ) → m ≤ k → Backed order entries from m p o → Backed order entries from k p o
+  backed_more : (m k p o : ℕ) → m ≤ k → Backed rows entries m p o → Backed rows entries k p o
   backed_more m k p o le h = record { place = h.place; below = omega (arith, h.below); has = h.has }
 
   -- the row at one place more
-  mask_more : (p place mask o : ℕ) → o < 32 → option_at entries (get_or order (from + place) 0) p ≡ o → Mask b scope order entries from place p mask → Mask b scope order entries from (place + 1) p (added mask o)
+  mask_more : (p place mask o : ℕ) → o < 32 → option_at entries (get_or rows place 0) p ≡ o → Mask b scope rows entries place p mask → Mask b scope rows entries (place + 1) p (added mask o)
   mask_more p place mask o small is m =
       record {
         sound = λ u h.
@@ -113,42 +114,42 @@ module _ (b scope order entries : List ℕ) (from n : ℕ) where
             (λ lt. added_more mask o small u (m.complete u (record { place = k.place; below = lt; has = k.has }) h))
             (λ ge.
             let e : k.place ≡ place = omega (arith, k.below) in
-            let f : o ≡ u = sym is ∙ ap (λ q. option_at entries (get_or order (from + q) 0) p) (sym e) ∙ k.has in
+            let f : o ≡ u = sym is ∙ ap (λ q. option_at entries (get_or rows q 0) p) (sym e) ∙ k.has in
             subst (Bit (added mask o)) f (added_here mask o small))
             (cases_lt k.place place);
       }
 
-  pub filling_more : (masks : List ℕ) (p place o : ℕ) → p < 8 → o < 32 → option_at entries (get_or order (from + place) 0) p ≡ o → Filling b scope order entries masks from n p place
-      → Filling b scope order entries (set masks p (added (get_or masks p 0) o)) from n p (place + 1)
+  pub filling_more : (masks : List ℕ) (p place o : ℕ) → p < 8 → o < 32 → option_at entries (get_or rows place 0) p ≡ o → Filling b scope rows entries masks p place
+      → Filling b scope rows entries (set masks p (added (get_or masks p 0) o)) p (place + 1)
   filling_more masks p place o lt small is f =
       let other : (q : ℕ) → (q ≡ p → ⊥) → get_or (set masks p (added (get_or masks p 0) o)) q 0 ≡ get_or masks q 0 = λ q ne. get_or-set_other masks p q (added (get_or masks p 0) o) 0 ne in
       record {
         done = record {
           long = length-set masks p (added (get_or masks p 0) o) ∙ f.done.long;
-          each = λ q h. subst (Mask b scope order entries from n q) (sym (other q (λ e. omega arith))) (f.done.each q h);
+          each = λ q h. subst (Mask b scope rows entries (length rows) q) (sym (other q (λ e. omega arith))) (f.done.each q h);
         };
-        here = subst (Mask b scope order entries from (place + 1) p) (sym (get_or-set_same masks p (added (get_or masks p 0) o) 0 (omega (arith, f.done.long)))) (mask_more p place (get_or masks p 0) o small is f.here);
+        here = subst (Mask b scope rows entries (place + 1) p) (sym (get_or-set_same masks p (added (get_or masks p 0) o) 0 (omega (arith, f.done.long)))) (mask_more p place (get_or masks p 0) o small is f.here);
         blank = λ q h k. other q (λ e. omega arith) ∙ f.blank q h k;
       }
 
-  done_more : (masks : List ℕ) (p place : ℕ) → Mask b scope order entries from n p (get_or masks p 0) → Filling b scope order entries masks from n p place → Gathering b scope order entries masks from n (p + 1)
+  done_more : (masks : List ℕ) (p place : ℕ) → Mask b scope rows entries (length rows) p (get_or masks p 0) → Filling b scope rows entries masks p place → Gathering b scope rows entries masks (p + 1)
   done_more masks p place m f =
       record {
-        done = record { long = f.done.long; each = below_more (λ q. Mask b scope order entries from n q (get_or masks q 0)) p f.done.each m };
+        done = record { long = f.done.long; each = below_more (λ q. Mask b scope rows entries (length rows) q (get_or masks q 0)) p f.done.each m };
         blank = λ q h. f.blank q (omega arith);
       }
 
   -- all rows were gathered
-  pub filling_all : (masks : List ℕ) (p place : ℕ) → place ≤ n → n ≤ place → Filling b scope order entries masks from n p place → Gathering b scope order entries masks from n (p + 1)
+  pub filling_all : (masks : List ℕ) (p place : ℕ) → place ≤ length rows → length rows ≤ place → Filling b scope rows entries masks p place → Gathering b scope rows entries masks (p + 1)
   filling_all masks p place le ge f =
-      let e : place ≡ n = omega arith in done_more masks p place (subst (λ k. Mask b scope order entries from k p (get_or masks p 0)) e f.here) f
+      let e : place ≡ length rows = omega arith in done_more masks p place (subst (λ k. Mask b scope rows entries k p (get_or masks p 0)) e f.here) f
 
   -- or all that is open has a support
-  pub filling_left : (masks : List ℕ) (p place : ℕ) → place ≤ n → get_or masks p 0 ≡ get_or b (get_or scope p 0) 0 → Filling b scope order entries masks from n p place → Gathering b scope order entries masks from n (p + 1)
+  pub filling_left : (masks : List ℕ) (p place : ℕ) → place ≤ length rows → get_or masks p 0 ≡ get_or b (get_or scope p 0) 0 → Filling b scope rows entries masks p place → Gathering b scope rows entries masks (p + 1)
   filling_left masks p place le e f =
       done_more masks p place
       (record {
-        sound = λ o h. backed_more place n p o le (f.here.sound o h);
+        sound = λ o h. backed_more place (length rows) p o le (f.here.sound o h);
         complete = λ o k h. open_bit b (get_or scope p 0) o (get_or masks p 0) e h;
       })
       f

@@ -19,7 +19,7 @@ use Rattle.sheets.proofs.Entries.{entries_rows, row_at_lem, row_long, row_low}
 use Rattle.sheets.proofs.Scopes.{scope_apart, scope_low}
 use Rattle.sheets.proofs.Tabled.{At, at, sheets_long, none_at}
 use Rattle.fit.specs.Laid.{scope_of, row_count, rows_before, row_of, Sound, Each, Apart, Runs, Laid}
-use Rattle.fit.specs.Meaning.{scope_in, keeps, fitting, scope_here, same_decides, keeps_decides}
+use Rattle.fit.specs.Meaning.{keeps, fitting, scope_here, same_decides, keeps_decides}
 use Rattle.fit.proofs.Filled.{before_next}
 
 -- a list is among the rows where it stands at some place
@@ -109,8 +109,8 @@ module _ (views : List View) (n : ℕ) (t : Taken Fit views n) (whole : n ≤ le
       place : (s p : ℕ) → s < n → p < row_count views s → get_or order (get_or starts s 0 + p) 0 ≡ p
       place s p h k = runs.each s p h (omega (arith, counted.is s h))
 
-      pub laid_first : Laid views n starts order counts (replicate 72 (replicate 64 0)) 0
-      laid_first =
+      pub laid_first : (marks : ℕ) → marks ≡ 0 → Laid views n starts order counts (replicate 72 (replicate 64 0)) marks
+      laid_first marks none =
           record {
             sound = sound;
             few = few;
@@ -150,9 +150,9 @@ module _ (views : List View) (n : ℕ) (t : Taken Fit views n) (whole : n ≤ le
           ))
           (keeps_decides views n starts order s (get_or counts s 0) l)
 
-      fresh_taken : Fresh t.sheets (fitting views n starts order counts (replicate 72 (replicate 64 0)) 0)
-      unfolding scope_in keeps
-      fresh_taken =
+      fresh_taken : (marks : ℕ) → marks ≡ 0 → Fresh t.sheets (fitting views n starts order counts (replicate 72 (replicate 64 0)) marks)
+      unfolding keeps
+      fresh_taken marks none =
           let long : length t.sheets ≡ n = sheets_long Fit views n t whole in
           record {
             count = sym long;
@@ -167,7 +167,7 @@ module _ (views : List View) (n : ℕ) (t : Taken Fit views n) (whole : n ≤ le
                 same_from_decides _ _ (kept_rows s h l) (has_decides l a.sheet.rows) ∙ ap (λ m. rule m a.sheet l) (sym a.make) ∙ sym (a.admits l))
                 (λ h. and_left (ltb s n) _ (le-ltb s n h) ∙ sym ((none_at t.sheets s (omega arith)).admits l))
                 (cases_lt s n);
-            marks = refl;
+            marks = none;
           }
 
 -- the same for the fit sheets of a checked catalogue
@@ -175,8 +175,9 @@ module _ (bs : List ℕ) (c : Counts) (ok : accepts bs c ≡ true) (o : Octets b
   pub taken : Taken Fit views n
   taken = taken_of bs c ok o Fit views n e
 
-  pub fresh : (starts counts order : List ℕ) → Each (rows_before views) starts n → Each (row_count views) counts n → n ≤ 64 → Runs starts counts order n → Fresh (sheets_in (content bs) Fit) (fitting views n starts order counts (replicate 72 (replicate 64 0)) 0)
+  pub fresh : (starts counts order : List ℕ) → Each (rows_before views) starts n → Each (row_count views) counts n → n ≤ 64 → Runs starts counts order n → (marks : ℕ) → marks ≡ 0
+      → Fresh (sheets_in (content bs) Fit) (fitting views n starts order counts (replicate 72 (replicate 64 0)) marks)
   unfolding taken
-  fresh starts counts order begins counted few runs =
-      subst (λ ts. Fresh ts (fitting views n starts order counts (replicate 72 (replicate 64 0)) 0)) (taken_sheets bs c ok o Fit views n e)
-      (fresh_taken views n taken whole starts counts begins counted few order runs)
+  fresh starts counts order begins counted few runs marks none =
+      subst (λ ts. Fresh ts (fitting views n starts order counts (replicate 72 (replicate 64 0)) marks)) (taken_sheets bs c ok o Fit views n e)
+      (fresh_taken views n taken whole starts counts begins counted few order runs marks none)

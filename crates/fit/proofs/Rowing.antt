@@ -2,9 +2,10 @@
 use Rattle.std.proofs.Common.{◌≡◌, ℕ, ◌+◌, ◌*◌, ◌<◌, ◌≤◌, List, length, get_or, arith}
 use Rattle.catalogue.specs.declared.view.View.{View}
 use Rattle.boxes.specs.Boxes.{Fits}
-use Rattle.fit.specs.Rows.{option_at, Suits}
+use Rattle.sheets.specs.Tables.{option_at}
+use Rattle.sheets.proofs.Reading.{option_in_row}
+use Rattle.fit.specs.Rows.{Suits}
 use Rattle.fit.specs.Laid.{scope_of, entries_of, row_count, row_of}
-use Rattle.fit.proofs.Reading.{row_at_lem}
 
 module _ (views : List View) (s : ℕ) where
   -- a row that is there lies whole in the entries
@@ -22,4 +23,4 @@ module _ (views : List View) (s : ℕ) where
 
   pub option_row : (r p : ℕ) → p < length (scope_of views s) → get_or (row_of views s r) p 0 ≡ option_at (entries_of views s) r p
   unfolding row_of
-  option_row r p h = row_at_lem (entries_of views s) (length (scope_of views s)) r p h
+  option_row r p h = option_in_row (entries_of views s) (length (scope_of views s)) r p h

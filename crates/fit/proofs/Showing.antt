@@ -1,5 +1,5 @@
 -- One sheet sifted and its box narrowed: what that comes to for the binder. Assumes nothing.
-use Rattle.std.proofs.Common.{◌≡◌, ℕ, ◌+◌, ◌<◌, ◌≤◌, Bool, List, [], length, get_or, set, Decides, sym, refl, ap, ◌∙◌, subst, ⊎_elim, arith, length-set, get_or-set_other, get_or-set_same}
+use Rattle.std.proofs.Common.{◌≡◌, ℕ, ◌+◌, ◌*◌, ◌<◌, ◌≤◌, Bool, List, [], length, get_or, set, Decides, sym, refl, ap, ◌∙◌, subst, ⊎_elim, arith, length-set, get_or-set_other, get_or-set_same}
 use Rattle.std.proofs.lemmas.Bool.{cases_eq, cases_lt}
 use Rattle.std.proofs.lemmas.Bool.Decides.{same_from_decides, Decides-like}
 use Rattle.catalogue.specs.declared.view.View.{View}
@@ -7,12 +7,14 @@ use Rattle.boxes.specs.Boxes.{Open, Fits, Bit}
 use Rattle.boxes.proofs.Bits.{open_low}
 use Rattle.binder.specs.Meaning.{Binding, Shown}
 use Rattle.sheets.specs.Closing.{Narrowed, shorter}
+use Rattle.sheets.specs.Tables.{scope_in, option_at}
 use Rattle.sheets.proofs.Narrowing.{Masks, shown_by_masks}
-use Rattle.fit.specs.Runs.{Among, Mixed, Sifted}
-use Rattle.fit.specs.Rows.{option_at, Suits, Whole, Low, Gathered}
+use Rattle.fit.specs.Runs.{Among}
+use Rattle.fit.specs.Rows.{Suits, Whole, Low, Gathered}
 use Rattle.fit.specs.Laid.{scope_of, entries_of, row_count, row_of, Laid}
-use Rattle.fit.specs.Meaning.{scope_in, Keeps, keeps, kept_at, fitting, Exact, scope_here, keeps_decides, kept_decides, from_T, to_T}
+use Rattle.fit.specs.Meaning.{Keeps, keeps, kept_at, fitting, Exact, scope_here, keeps_decides, kept_decides, from_T, to_T}
 use Rattle.fit.proofs.Reading.{suits_at}
+use Rattle.fit.proofs.Sifting.{Mixed, SiftedRun, Lies}
 use Rattle.fit.proofs.Rowing.{row_there, fits_row, suits_row, option_row}
 
 -- tests of the same are the same
@@ -31,15 +33,17 @@ moved : (views : List View) (starts order order' : List ℕ) (s n m : ℕ) (l : 
 moved views starts order order' s n m l f z = record { row = z.row; among = f z.row z.among; reads = z.reads }
 
 module _ (views : List View) (count : ℕ) (starts order counts : List ℕ) (saved : List (List ℕ)) (marks : ℕ) (x : Laid views count starts order counts saved marks) (s : ℕ) (hs : s < count) where
-  -- what a sift and a gathering ask
-  pub whole : Whole order (entries_of views s) (get_or starts s 0) (get_or counts s 0)
-  whole =
+  -- what a sift asks of the run
+  pub whole : (run : List ℕ) → Lies order run (get_or starts s 0) (get_or counts s 0) → Whole run (entries_of views s)
+  whole run at =
       record {
-        room = omega (arith, x.room s hs, x.within s hs);
-        rows = λ p h. row_there views s (get_or order (get_or starts s 0 + p) 0) (x.rows s p hs (omega (arith, x.within s hs)));
+        each = λ p h.
+            let lt : p < get_or counts s 0 = omega (arith, at.long) in
+            subst (λ (v : ℕ). 9 * v + 9 ≤ length (entries_of views s)) (at.at p lt)
+            (row_there views s (get_or order (get_or starts s 0 + p) 0) (x.rows s p hs (omega (arith, x.within s hs))));
       }
 
-  module _ (order' b : List ℕ) (left : ℕ) (sifted : Sifted (Suits b (scope_of views s) (entries_of views s)) order order' (get_or starts s 0) (get_or counts s 0) left) where
+  module _ (order' b : List ℕ) (left : ℕ) (sifted : SiftedRun (Suits b (scope_of views s) (entries_of views s)) order order' (get_or starts s 0) (get_or counts s 0) left) where
     mixed : Mixed order order' (get_or starts s 0) (get_or counts s 0)
     mixed = sifted.mixed
 
@@ -95,18 +99,25 @@ module _ (views : List View) (count : ℕ) (starts order counts : List ℕ) (sav
           falls = x.falls;
         }
 
-    pub whole_after : Whole order' (entries_of views s) (get_or starts s 0) left
-    whole_after =
-        record {
-          room = omega (arith, x.room s hs, x.within s hs, sifted.fewer);
-          rows = λ p h. row_there views s (get_or order' (get_or starts s 0 + p) 0) (rows_after s p hs (omega (arith, x.within s hs, sifted.fewer)));
-        }
+    -- what a gathering asks of the rows that are left
+    module _ (rows : List ℕ) (at : Lies order' rows (get_or starts s 0) left) where
+      pub whole_after : Whole rows (entries_of views s)
+      whole_after =
+          record {
+            each = λ p h.
+                let lt : p < left = omega (arith, at.long) in
+                subst (λ (v : ℕ). 9 * v + 9 ≤ length (entries_of views s)) (at.at p lt)
+                (row_there views s (get_or order' (get_or starts s 0 + p) 0) (rows_after s p hs (omega (arith, x.within s hs, sifted.fewer))));
+          }
 
-    pub low_after : Low order' (entries_of views s) (get_or starts s 0) left (length (scope_of views s))
-    low_after =
-        record {
-          each = λ q p hq hp. open_low b (get_or (scope_of views s) p 0) (option_at (entries_of views s) (get_or order' (get_or starts s 0 + q) 0) p) (suits_at b (scope_of views s) (entries_of views s) (get_or order' (get_or starts s 0 + q) 0) (sifted.good q hq) p hp);
-        }
+      pub low_after : Low rows (entries_of views s) (length (scope_of views s))
+      low_after =
+          record {
+            each = λ q p hq hp.
+                let lt : q < left = omega (arith, at.long) in
+                let good = subst (Suits b (scope_of views s) (entries_of views s)) (at.at q lt) (sifted.good q lt) in
+                open_low b (get_or (scope_of views s) p 0) (option_at (entries_of views s) (get_or rows q 0) p) (suits_at b (scope_of views s) (entries_of views s) (get_or rows q 0) good p hp);
+          }
 
     -- what is kept after was kept before, and fits
     kept_before : (l : List ℕ) → Keeps views starts order' s left l → Keeps views starts order s (get_or counts s 0) l
@@ -163,19 +174,21 @@ module _ (views : List View) (count : ℕ) (starts order counts : List ℕ) (sav
               (now_decides l);
         }
 
-    masks_hold : (masks : List ℕ) → Gathered b (scope_of views s) order' (entries_of views s) masks (get_or starts s 0) left (length (scope_of views s)) → Masks (fitting views count starts order counts saved marks) s b masks
-    masks_hold masks g =
+    masks_hold : (masks rows : List ℕ) → Lies order' rows (get_or starts s 0) left → Gathered b (scope_of views s) rows (entries_of views s) masks (length (scope_of views s)) → Masks (fitting views count starts order counts saved marks) s b masks
+    masks_hold masks rows at g =
         let sound : (p o : ℕ) → p < length (scope_of views s) → Bit (get_or masks p 0) o → (l : List ℕ) × Keeps views starts order' s left l × (get_or l p 0 ≡ o)
         = λ p o h bit.
         let k = (g.each p h).sound o bit in
-        let r : ℕ = get_or order' (get_or starts s 0 + k.place) 0 in
-        (row_of views s r, record { row = r; among = record { place = k.place; below = k.below; is = refl }; reads = refl }, option_row views s r p h ∙ k.has) in
+        let lt : k.place < left = omega (arith, k.below, at.long) in
+        let r : ℕ = get_or rows k.place 0 in
+        (row_of views s r, record { row = r; among = record { place = k.place; below = lt; is = at.at k.place lt }; reads = refl }, option_row views s r p h ∙ k.has) in
         let complete : (p o : ℕ) → p < length (scope_of views s) → (l : List ℕ) → Keeps views starts order s (get_or counts s 0) l → Fits b (scope_of views s) l → get_or l p 0 ≡ o → Bit (get_or masks p 0) o
         = λ p o h l kept fits holds.
         let z = kept_still l kept fits in
-        let has : option_at (entries_of views s) (get_or order' (get_or starts s 0 + z.among.place) 0) p ≡ o
-        = ap (λ r. option_at (entries_of views s) r p) z.among.is ∙ sym (option_row views s z.row p h) ∙ ap (λ r. get_or r p 0) z.reads ∙ holds in
-        (g.each p h).complete o (record { place = z.among.place; below = z.among.below; has = has }) (subst (Open b (get_or (scope_of views s) p 0)) holds (fits.each p h)) in
+        let lt : z.among.place < length rows = omega (arith, z.among.below, at.long) in
+        let has : option_at (entries_of views s) (get_or rows z.among.place 0) p ≡ o
+        = ap (λ r. option_at (entries_of views s) r p) (sym (at.at z.among.place z.among.below) ∙ z.among.is) ∙ sym (option_row views s z.row p h) ∙ ap (λ r. get_or r p 0) z.reads ∙ holds in
+        (g.each p h).complete o (record { place = z.among.place; below = lt; has = has }) (subst (Open b (get_or (scope_of views s) p 0)) holds (fits.each p h)) in
         record {
           sound = λ p o h is_open bit.
               let z = sound p o (unscoped (λ sc. p < length sc) h) bit in
@@ -189,12 +202,12 @@ module _ (views : List View) (count : ℕ) (starts order counts : List ℕ) (sav
               complete p o (unscoped (λ sc. p < length sc) h) held.list ((was_decides held.list).0 (from_T _ held.keeps)) (unscoped (λ sc. Fits b sc held.list) held.fits) held.holds;
         }
 
-    pub shown : (c masks : List ℕ) → Gathered b (scope_of views s) order' (entries_of views s) masks (get_or starts s 0) left (length (scope_of views s)) → Narrowed b c (scope_of views s) masks (length (scope_of views s))
+    pub shown : (c masks rows : List ℕ) → Lies order' rows (get_or starts s 0) left → Gathered b (scope_of views s) rows (entries_of views s) masks (length (scope_of views s)) → Narrowed b c (scope_of views s) masks (length (scope_of views s))
         → Shown (fitting views count starts order counts saved marks) (fitting views count starts order' (set counts s left) saved marks) s b c
-    shown c masks g narrowed =
+    shown c masks rows at g narrowed =
         let box = shown_by_masks (fitting views count starts order counts saved marks) s b c masks
         (scoped (λ sc. (p q : ℕ) → p < q → q < length sc → get_or sc p 0 ≡ get_or sc q 0 → ⊥) (λ p q. x.sound.apart s p q hs))
-        (masks_hold masks g)
+        (masks_hold masks rows at g)
         (scoped (λ sc. Narrowed b c sc masks (length sc)) narrowed) in
         record {
           supported = box.supported;

@@ -43,10 +43,9 @@ pub record Apart (starts counts : List ℕ) (n : ℕ) : Type 0 where
   pub room : (s : ℕ) → s < n → slice_index starts s + slice_index counts s ≤ 4096
   pub apart : (s t : ℕ) → s < t → t < n → slice_index starts s + slice_index counts s ≤ slice_index starts t
 
--- the run of n places from `from` on holds the numbers from 0 up, and the other places are as they were
-pub record Run (xs ys : List ℕ) (from n : ℕ) : Type 0 where
-  pub here : (p : ℕ) → p < n → slice_index ys (from + p) ≡ p
-  pub under : (p : ℕ) → p < from → slice_index ys p ≡ slice_index xs p
+-- the first n of a list are the numbers from 0 up
+pub record Numbered (xs : List ℕ) (n : ℕ) : Type 0 where
+  pub each : (p : ℕ) → p < n → slice_index xs p ≡ p
 
 -- each of the first k runs holds the numbers from 0 up
 pub record Runs (starts counts order : List ℕ) (k : ℕ) : Type 0 where

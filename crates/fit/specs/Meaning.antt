@@ -1,5 +1,5 @@
 -- What a fit binder means: its sheets keep the rows at the fronts of their runs. Assumes nothing.
-use Rattle.std.specs.Prelude.{◌≡◌, ℕ, zero, suc, ◌+◌, ◌<◌, ◌≤◌, Bool, true, false, cond, ◌&&◌, ◌||◌, T, List, [], ◌∷◌, length, get_or, Decides, ◌==◌, ◌≢◌, nat_lt, slice_index, slice_index_or, refl}
+use Rattle.std.specs.Prelude.{◌≡◌, ℕ, zero, suc, ◌+◌, ◌<◌, ◌≤◌, Bool, true, false, ◌&&◌, ◌||◌, T, List, [], ◌∷◌, length, get_or, Decides, ◌==◌, ◌≢◌, nat_lt, slice_index, slice_index_or, refl}
 use Rattle.std.proofs.Common.{sym, ap, ap₂, subst, ◌∙◌, arith}
 use Rattle.std.proofs.Math.Logic.{∥∥₁_elim}
 use Rattle.std.proofs.Math.Bridge.{le_prop}
@@ -10,13 +10,10 @@ use Rattle.catalogue.specs.declared.view.View.{View}
 use Rattle.catalogue.specs.Checks.{same}
 use Rattle.boxes.specs.Boxes.{Fits}
 use Rattle.binder.specs.Meaning.{Binding, Proper, Listed}
+use Rattle.sheets.specs.Tables.{scope_in}
 use Rattle.fit.specs.Runs.{Among}
 use Rattle.fit.specs.Laid.{scope_of, row_count, row_of, Laid}
 use Rattle.fit.specs.declared.Fit.{Fit}
-
--- the scope of sheet s, if there is one
-unfoldable pub scope_in : List View → ℕ → ℕ → List ℕ
-scope_in views count s = cond (nat_lt s count) (scope_of views s) []
 
 -- one of the first n places of the run of sheet s holds a row that reads as l
 pub record Keeps (views : List View) (starts order : List ℕ) (s n : ℕ) (l : List ℕ) : Type 0 where
@@ -48,7 +45,7 @@ fitting views count starts order counts saved marks =
     }
 
 abbrev pub meaning_of : Fit → Binding
-meaning_of x = fitting x.sheets.views x.sheets.count x.starts x.order x.counts x.saved x.marks
+meaning_of x = fitting x.sheets.views x.sheets.count x.starts x.order x.counts x.saved x.marks.count
 
 -- after a showing of b, sheet s keeps exactly the lists that it kept before and that fit b
 pub record Exact (m n : Binding) (s : ℕ) (b : List ℕ) : Type 0 where
@@ -56,7 +53,6 @@ pub record Exact (m n : Binding) (s : ℕ) (b : List ℕ) : Type 0 where
 
 -- Laws of these definitions.
 pub scope_here : (views : List View) (count s : ℕ) → s < count → scope_in views count s ≡ scope_of views s
-unfolding scope_in
 scope_here views count s h = cond-true (nat_lt s count) (scope_of views s) [] (lt-ltb s count h)
 
 same_to : (xs ys : List ℕ) → same xs ys ≡ true → xs ≡ ys
@@ -152,5 +148,5 @@ module _ (views : List View) (count : ℕ) (starts order counts : List ℕ) (sav
 
 pub proper_of : (x : Fit) → Proper (meaning_of x)
 proper_of x =
-    fitting_proper x.sheets.views x.sheets.count x.starts x.order x.counts x.saved x.marks
-    (laid_out x.sheets.views x.sheets.count x.starts x.order x.counts x.saved x.marks x.laid)
+    fitting_proper x.sheets.views x.sheets.count x.starts x.order x.counts x.saved x.marks.count
+    (laid_out x.sheets.views x.sheets.count x.starts x.order x.counts x.saved x.marks.count x.laid)

@@ -12,9 +12,6 @@ use binder::refusal::Refusal;
 use boxes::OptionBox;
 use sheets::closing::keep_only;
 
-// The most marks that may stand.
-const MARKS: usize = 72;
-
 impl<'a> Binder for Fit<'a> {
     ghost meaning = { meaning_of };
 
@@ -25,26 +22,15 @@ impl<'a> Binder for Fit<'a> {
     }
 
     fn marks(&self) -> usize {
-        self.marks
+        self.marks.count
     }
 
     fn arity(&self, sheet: usize) -> Result<usize, Refusal> {
-        if sheet >= self.sheets.count {
-            return Err(Refusal::NotThere);
-        }
-        let view = self.sheets.view(sheet);
-        Ok(view.scope.len())
+        self.sheets.arity(sheet)
     }
 
     fn slot_at(&self, sheet: usize, position: usize) -> Result<usize, Refusal> {
-        if sheet >= self.sheets.count {
-            return Err(Refusal::NotThere);
-        }
-        let view = self.sheets.view(sheet);
-        if position >= view.scope.len() {
-            return Err(Refusal::NotThere);
-        }
-        Ok(view.scope[position] as usize)
+        self.sheets.slot_at(sheet, position)
     }
 
     // Drops the rows that do not fit, all of them, and then closes what the rows that are left do not hold.
@@ -53,43 +39,32 @@ impl<'a> Binder for Fit<'a> {
             (λ e. (e ≡ NotThere) × ((meaning_of self.old).count ≤ sheet) × (self.new ≡ self.old) × (slate.new ≡ slate.old)) }
         ensures exact { OnOk result (Exact (meaning_of self.old) (meaning_of self.new) sheet slate.old.cells) }
     {
-        if sheet >= self.sheets.count {
-            return Err(Refusal::NotThere);
-        }
-        let view = self.sheets.view(sheet);
+        let shown = self.sheets.sheet(sheet)?;
         let start = self.starts[sheet] as usize;
-        let count = self.counts[sheet] as usize;
-        let left = sift(
-            &mut self.order,
-            start,
-            count,
-            view.entries,
-            view.scope,
-            slate,
-        );
+        let end = start + self.counts[sheet] as usize;
+        let left = sift(&mut self.order[start..end], &shown, slate);
         self.counts[sheet] = left as u16;
-        let masks = supports(&self.order, start, left, view.entries, view.scope, slate);
-        keep_only(slate, view.scope, &masks[..]);
+        let run = &self.order[start..end];
+        let masks = supports(&run[..left], &shown, slate);
+        keep_only(slate, shown.scope.slots, &masks);
         Ok(())
     }
 
     fn mark(&mut self) -> Result<(), Refusal> {
-        if self.marks >= MARKS {
-            return Err(Refusal::TooManyMarks);
-        }
+        let mut marks = self.marks;
+        marks.add()?;
         let counts = self.counts;
-        self.saved[self.marks] = counts;
-        self.marks += 1;
+        self.saved[self.marks.count] = counts;
+        self.marks = marks;
         Ok(())
     }
 
     fn undo(&mut self) -> Result<(), Refusal> {
-        if self.marks == 0 {
-            return Err(Refusal::NoMark);
-        }
-        self.marks -= 1;
-        let counts = self.saved[self.marks];
+        let mut marks = self.marks;
+        marks.drop_newest()?;
+        let counts = self.saved[marks.count];
         self.counts = counts;
+        self.marks = marks;
         Ok(())
     }
 }

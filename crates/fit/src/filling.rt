@@ -1,14 +1,16 @@
 // Fills a fit binder from a checked catalogue.
-ghost use Rattle.std.specs.Prelude.{◌≡◌, ◌+◌, ◌<◌, ◌≤◌};
+ghost use Rattle.std.specs.Prelude.{◌≡◌, ◌<◌, ◌≤◌, length};
 ghost use Rattle.catalogue.specs.Verdict.{content};
 ghost use Rattle.sheets.specs.Tables.{sheets_in};
 ghost use Rattle.sheets.specs.Rules.{Fresh};
-ghost use Rattle.fit.specs.Laid.{row_count, rows_before, Each, Apart, Run, Runs};
+ghost use Rattle.fit.specs.Laid.{row_count, rows_before, Each, Apart, Numbered, Runs};
 ghost use Rattle.fit.specs.Meaning.{meaning_of};
 
-use crate::{Fit, ROW};
+use crate::Fit;
+use binder::marks::Marks;
 use catalogue::checked::Catalogue;
 use catalogue::make::Make;
+use sheets::sheet::ROW;
 use sheets::table::Sheets;
 use sheets::taking::sheets_of;
 
@@ -48,12 +50,12 @@ fn run_starts(sheets: &Sheets) -> [u16; 64]
 }
 
 // Puts the numbers from 0 up into a run of places.
-fn lay_run(order: &mut [u16; 4096], start: usize, count: usize)
-    requires { start + count ≤ 4096 }
-    ensures { Run order.old order.new start count }
+fn lay_run(run: &mut [u16])
+    requires { length run.old ≤ 4096 }
+    ensures { Numbered run.new (length run.old) }
 {
-    for place in 0..count {
-        order[start + place] = place as u16;
+    for (place, row) in run.iter_mut().enumerate() {
+        *row = place as u16;
     }
 }
 
@@ -63,8 +65,9 @@ fn run_places(starts: &[u16; 64], counts: &[u16; 64], n: usize) -> [u16; 4096]
     ensures { Runs starts.now counts.now result n }
 {
     let mut order = [0; 4096];
-    for sheet in 0..n {
-        lay_run(&mut order, starts[sheet] as usize, counts[sheet] as usize);
+    'runs: for (start, count) in starts[..n].iter().zip(&counts[..n]) {
+        let start = *start as usize;
+        lay_run(&mut order[start..start + *count as usize]);
     }
     order
 }
@@ -84,7 +87,7 @@ impl<'a> Fit<'a> {
             starts,
             counts,
             saved: [[0; 64]; 72],
-            marks: 0,
+            marks: Marks::none(),
         }
     }
 }

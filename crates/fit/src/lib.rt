@@ -3,15 +3,13 @@
 
 ghost use Rattle.fit.specs.Laid.{Laid};
 
+use binder::marks::Marks;
 use sheets::table::Sheets;
 
 pub mod calls;
 mod dropping;
 pub mod filling;
 mod support;
-
-// How many bytes a row has: its kind, and an option or a byte that is not used for each of eight positions.
-const ROW: usize = 9;
 
 // The rows that a sheet keeps are a sparse set: the front of a run of places that hold row numbers. Each
 // sheet has a run of `order`, with as many places as it has rows. `starts` says where it begins, and
@@ -22,7 +20,8 @@ const ROW: usize = 9;
 //                kept      dropped
 //
 // A row that does not fit is swapped with the last kept one, and the count falls by one. So a row that
-// leaves a front stays in every longer front: a mark saves only the counts, and an undo puts them back.
+// leaves a front stays in every longer front: a mark saves only the counts, and an undo puts them back. One
+// table of starts and counts together would be no plainer, since a mark would then copy the starts too.
 #[derive(Drop)]
 pub struct Fit<'a> {
     sheets: Sheets<'a>,
@@ -30,6 +29,6 @@ pub struct Fit<'a> {
     starts: [u16; 64],
     counts: [u16; 64],
     saved: [[u16; 64]; 72],
-    marks: usize,
-    ghost laid: { ∥ Laid sheets.views sheets.count starts order counts saved marks ∥₁ },
+    marks: Marks,
+    ghost laid: { ∥ Laid sheets.views sheets.count starts order counts saved marks.count ∥₁ },
 }

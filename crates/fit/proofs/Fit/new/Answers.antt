@@ -30,11 +30,11 @@ invariant_of-result c =
     let s = c.sheets_of-sheets.result in
     let whole : s.count ≤ length s.views = omega (arith, s.few, s.long) in
     let t = taken k.bytes.now k.counts k.accepted k.octets _ _ c.sheets_of-sheets.ensures.is whole in
-    record { laid = ∣ laid_first _ _ t whole _ _ c.run_starts-starts.ensures c.row_counts-counts.ensures s.few _ c.run_places-order.ensures ∣₁ }
+    record { laid = ∣ laid_first _ _ t whole _ _ c.run_starts-starts.ensures c.row_counts-counts.ensures s.few _ c.run_places-order.ensures _ c.none.ensures ∣₁ }
 
 pub returns : goal.returns
 returns c =
     let k = c.args.catalogue.now in
     let s = c.sheets_of-sheets.result in
     let whole : s.count ≤ length s.views = omega (arith, s.few, s.long) in
-    fresh k.bytes.now k.counts k.accepted k.octets _ _ c.sheets_of-sheets.ensures.is whole _ _ _ c.run_starts-starts.ensures c.row_counts-counts.ensures s.few c.run_places-order.ensures
+    fresh k.bytes.now k.counts k.accepted k.octets _ _ c.sheets_of-sheets.ensures.is whole _ _ _ c.run_starts-starts.ensures c.row_counts-counts.ensures s.few c.run_places-order.ensures _ c.none.ensures

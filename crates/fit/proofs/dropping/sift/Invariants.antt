@@ -4,7 +4,7 @@ use Rattle.fit.proofs.Sifting.{Sifting}
 use Rattle.fit.proofs.dropping.sift.Given as goal
 
 abbrev pub invariant-loop-place : goal.invariant-loop-place
-invariant-loop-place l = Sifting (Suits l.slate.cells l.scope l.entries) l.initial.order l.order l.start l.count l.left l.place
+invariant-loop-place l = Sifting (Suits l.slate.cells l.sheet.scope.slots.now l.sheet.entries.now) l.initial.run l.run l.left l.place
 
 abbrev pub decreases-loop-place : goal.decreases-loop-place
 decreases-loop-place l = l.left - l.place
