@@ -14,6 +14,7 @@ use std::array;
 // How many options are open at each position of a scope, and 1 at each position past its last.
 #[derive(Drop)]
 struct Sizes {
+    // An array, since the library uses no heap; no length stands beside it, since a size of 1 changes no product.
     each: [u64; 8],
     ghost long: { length each ≡ 8 },
     ghost low: { (p : ℕ) → p < 8 → slice_index each p ≤ 32 },
@@ -66,6 +67,7 @@ fn mask_of(counts: &[u32; 32], many: u64) -> u32
 //   counts:  position 0: [ options 0 .. 31 ], position 1: [ options 0 .. 31 ], .. position 7
 #[derive(Drop)]
 struct Tally {
+    // An array, since the library uses no heap; every position and option has its own count.
     counts: [[u32; 32]; 8],
     ghost long: { length counts ≡ 8 },
     ghost wide: { (p : ℕ) → p < 8 → length (slice_index_or counts p []) ≡ 32 },
