@@ -79,10 +79,7 @@ fn call_by(letter: u8, fields: &[u8]) -> Option<Call>
             Some(Call::Strike(slot, option))
         }
         'b' => alone(Call::Back, fields),
-        'l' => {
-            let slot = one_number(fields)?;
-            Some(Call::Look(slot))
-        }
+        'l' => one_number(fields).map(Call::Look),
         'w' => alone(Call::Begin, fields),
         'n' => alone(Call::Next, fields),
         'e' => alone(Call::End, fields),

@@ -75,6 +75,7 @@ fn answer<B: Binder + Drop>(
 fn serve<B: Binder + Drop>(rt: &HostRuntime, planner: Planner<B>) -> anyhow::Result<()> {
     let mut session = Session::Outside(planner);
     let mut input = Vec::from_elem(rt.alloc(), 0u8, LIMIT)?;
+    // Two places in the buffer are plainer here: bytes that wait for their line end stay between them.
     let mut from = 0;
     let mut to = 0;
     let mut more = true;
