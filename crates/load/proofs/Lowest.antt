@@ -1,4 +1,4 @@
--- The least weight of the options of a cell, and those at each position. Assumes nothing.
+-- The least weight of the options of a cell. Assumes nothing.
 use Rattle.std.proofs.Common.{◌≡◌, ℕ, zero, suc, ◌+◌, ◌<◌, true, false, List, [], ◌∷◌, length, map, get_or, set, ℤ, pos, ◌≤ℤ◌, ◌<ℤ◌, Some, None, Option, Less, Equal, Greater, Ordering, sym, refl, ◌∙◌, ap, subst, ⊎_elim, arith, get_or-set_other, get_or-set_same, below_more}
 use Rattle.std.specs.Prelude.{MatchOption, IfSome, IsSomeAnd}
 use Rattle.std.specs.Option.{option_map}
@@ -60,7 +60,7 @@ some_one None P h = absurd h
 some_one (Some x) P h = (x, h)
 
 module _ {S A : Type 0} {steps : S → Option A → S → Type 0} (p : Run steps) where
-  -- what holds of the item at a place holds of that of the list, and the other way
+  -- what holds of the item at a place holds of that of the list
   item_of : (k : ℕ) (d : A) (P : A → Type 0) → k < p.len → IfSome (p.at k) P → P (get_or p.items k d)
   item_of k d P h = go (p.at k) (p.reads k d h)
     where
@@ -113,12 +113,3 @@ module _ {S : Type 0} {steps : S → Option ℤ → S → Type 0} (p : Run steps
         small = subst Small (some_of p k (pos 0) (λ x. x ≡ m) lt here) (item_of p k (pos 0) Small lt (small k));
         least = record { at = get_or options k 0; allowed = listed.each k (omega (arith, as_many)); is = e; least = under };
       }
-
--- the least weights, position by position
-pub leasts_more : (b scope : List ℕ) (table : List (List ℤ)) (ms : List ℤ) (n : ℕ) (m : ℤ) → n < length ms → LowestAt b scope table n ms → Lowest (OpenIn (cell_at b scope n)) (weighs table n) m → LowestAt b scope table (n + 1) (set ms n m)
-leasts_more b scope table ms n m h was here =
-    below_more
-    (λ p. Lowest (OpenIn (cell_at b scope p)) (weighs table p) (get_or (set ms n m) p (pos 0)))
-    n
-    (λ p lt. subst (Lowest (OpenIn (cell_at b scope p)) (weighs table p)) (sym (get_or-set_other ms n p m (pos 0) (λ e. omega arith))) (was p lt))
-    (subst (Lowest (OpenIn (cell_at b scope n)) (weighs table n)) (sym (get_or-set_same ms n m (pos 0) h)) here)

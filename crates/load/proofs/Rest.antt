@@ -13,35 +13,20 @@ pub record SummedTo (ms : List ℤ) (i : ℕ) (sum : ℤ) : Type 0 where
   pub low : neg_ℤ (pos (32768 * i)) ≤ℤ sum
   pub high : sum ≤ℤ pos (32768 * i)
 
-pub summed_none : (ms : List ℤ) → SummedTo ms 0 (pos 0)
-summed_none ms = record { whole = sums.neutral (total sums ms); low = omega (arith, ints); high = omega (arith, ints) }
-
-module _ (ms : List ℤ) (i : ℕ) (sum : ℤ) (was : SummedTo ms i sum) where
-  pub summed_more : i < length ms → Small (get_or ms i (pos 0)) → SummedTo ms (i + 1) (sum +ℤ get_or ms i (pos 0))
-  summed_more h sm =
-      let x : ℤ = get_or ms i (pos 0) in
-      let l = sm.low in
-      let k = sm.high in
-      let lo = was.low in
-      let hi = was.high in
-      let rest : ℤ = total sums (drop (i + 1) ms) in
-      let split : total sums (drop i ms) ≡ x +ℤ rest = at_drop_more (total sums) ms i (pos 0) h in
-      record {
-        whole = sums.assoc sum x rest ∙ ap (λ y. sum +ℤ y) (sym split) ∙ was.whole;
-        low = omega (arith, ints);
-        high = omega (arith, ints);
-      }
-
-  pub summed_all : length ms ≤ i → sum ≡ total sums ms
-  summed_all h =
-      let none : total sums (drop i ms) ≡ pos 0 = at_drop_all (total sums) ms i h in
-      sym (ap (λ y. sum +ℤ y) none ∙ sums.comm sum (pos 0) ∙ sums.neutral sum) ∙ was.whole
-
-  pub summed_small : i ≤ 8 → Summed sum
-  summed_small h =
-      let lo = was.low in
-      let hi = was.high in
-      record { low = omega (arith, ints); high = omega (arith, ints) }
+pub summed_more : (ms : List ℤ) (i : ℕ) (sum : ℤ) → SummedTo ms i sum → i < length ms → Small (get_or ms i (pos 0)) → SummedTo ms (i + 1) (sum +ℤ get_or ms i (pos 0))
+summed_more ms i sum was h sm =
+    let x : ℤ = get_or ms i (pos 0) in
+    let l = sm.low in
+    let k = sm.high in
+    let lo = was.low in
+    let hi = was.high in
+    let rest : ℤ = total sums (drop (i + 1) ms) in
+    let split : total sums (drop i ms) ≡ x +ℤ rest = at_drop_more (total sums) ms i (pos 0) h in
+    record {
+      whole = sums.assoc sum x rest ∙ ap (λ y. sum +ℤ y) (sym split) ∙ was.whole;
+      low = omega (arith, ints);
+      high = omega (arith, ints);
+    }
 
 -- the whole without one of them
 pub rest_is : (ms : List ℤ) (p : ℕ) (r : ℤ) → p < length ms → r ≡ total sums ms -ℤ get_or ms p (pos 0) → r ≡ rest_of ms p
