@@ -8,13 +8,13 @@ use crate::make::Make;
 
 #[derive(Clone, Copy, PartialEq, Eq, Debug)]
 pub enum Kind {
-    Slot,
-    Fit,
-    Bar,
-    Load,
-    Row,
-    Weight,
-    End,
+    Slot = 1,
+    Fit = 2,
+    Bar = 3,
+    Load = 4,
+    Row = 5,
+    Weight = 6,
+    End = 7,
 }
 
 // A byte that is the first of no record.
@@ -41,6 +41,13 @@ impl TryFrom<u8> for Kind {
 }
 
 impl Kind {
+    // The first byte of each record of the kind.
+    pub fn code(self) -> u8
+        ensures { result ≡ code_of self }
+    {
+        self as u8
+    }
+
     // How many bytes of body a record of the kind has.
     pub fn body_len(self) -> usize
         ensures { result ≡ body_len (code_of self) }

@@ -1,7 +1,9 @@
 // A catalogue file in the making: each call puts one record more at its end.
 ghost use Rattle.std.specs.Prelude.{◌≡◌, ◌+◌, ◌-◌, ◌%◌, ◌≤◌, [], ◌∷◌, ◌++◌, length, take, replicate, IfOk, vec_len, slice_set};
+ghost use Rattle.catalogue.specs.Kinds.{code_of};
 ghost use Rattle.catalogue.specs.Writing.{padded, two_bytes, four_bytes, slot_bytes, row_bytes};
 
+use catalogue::kind::Kind;
 use std::alloc::{AllocError, Global};
 
 // What stands in the bytes that are not used.
@@ -12,18 +14,6 @@ fn unused_behind(used: usize) -> &'static [u8]
     ensures { result.now ≡ replicate (8 - used) 255 }
 {
     if used < 8 { &UNUSED[used..] } else { &[] }
-}
-
-// The kinds of records, by the byte that each begins with.
-#[derive(Clone, Copy)]
-enum Kind {
-    Slot = 1,
-    Fit = 2,
-    Bar = 3,
-    Load = 4,
-    Row = 5,
-    Weight = 6,
-    End = 7,
 }
 
 #[derive(Drop)]
@@ -64,7 +54,7 @@ impl Draft {
         ensures bytes { IfOk result (λ d. d.bytes.items ≡ self.bytes.items ++ slot_bytes options) }
         ensures long { IfOk result (λ d. vec_len d.bytes ≡ vec_len self.bytes + 2) }
     {
-        self.raw(&[Kind::Slot as u8, options])
+        self.raw(&[Kind::Slot.code(), options])
     }
 
     // Eight bytes: the ones given, and behind them FF.
@@ -80,15 +70,16 @@ impl Draft {
         ensures bytes { IfOk result (λ d. d.bytes.items ≡ self.bytes.items ++ row_bytes options.now) }
         ensures long { IfOk result (λ d. (length options.now ≤ 8 → vec_len d.bytes ≡ vec_len self.bytes + 9)) }
     {
-        self.raw(&[Kind::Row as u8])?.fields(options)
+        self.raw(&[Kind::Row.code()])?.fields(options)
     }
 
     // A header of a kind, without a cap: so many slots, and which.
-    fn header(self, kind: u8, scope: &[u8]) -> Result<Draft, AllocError>
-        ensures bytes { IfOk result (λ d. d.bytes.items ≡ self.bytes.items ++ kind ∷ length scope.now % 256 ∷ padded scope.now) }
+    fn header(self, kind: Kind, scope: &[u8]) -> Result<Draft, AllocError>
+        ensures bytes { IfOk result (λ d. d.bytes.items ≡ self.bytes.items ++ code_of kind ∷ length scope.now % 256 ∷ padded scope.now) }
         ensures long { IfOk result (λ d. (length scope.now ≤ 8 → vec_len d.bytes ≡ vec_len self.bytes + 10)) }
     {
-        self.raw(&[kind, (scope.len() % 256) as u8])?.fields(scope)
+        self.raw(&[kind.code(), (scope.len() % 256) as u8])?
+            .fields(scope)
     }
 
     // The header of a fit sheet that names these slots.
@@ -96,7 +87,7 @@ impl Draft {
         ensures bytes { IfOk result (λ d. d.bytes.items ≡ self.bytes.items ++ 2 ∷ length scope.now % 256 ∷ padded scope.now) }
         ensures long { IfOk result (λ d. (length scope.now ≤ 8 → vec_len d.bytes ≡ vec_len self.bytes + 10)) }
     {
-        self.header(Kind::Fit as u8, scope)
+        self.header(Kind::Fit, scope)
     }
 
     // The header of a bar sheet that names these slots.
@@ -104,7 +95,7 @@ impl Draft {
         ensures bytes { IfOk result (λ d. d.bytes.items ≡ self.bytes.items ++ 3 ∷ length scope.now % 256 ∷ padded scope.now) }
         ensures long { IfOk result (λ d. (length scope.now ≤ 8 → vec_len d.bytes ≡ vec_len self.bytes + 10)) }
     {
-        self.header(Kind::Bar as u8, scope)
+        self.header(Kind::Bar, scope)
     }
 
     // The header of a load sheet that names these slots and has this cap.
@@ -112,8 +103,7 @@ impl Draft {
         ensures bytes { IfOk result (λ d. d.bytes.items ≡ self.bytes.items ++ ((4 ∷ length scope.now % 256 ∷ padded scope.now) ++ four_bytes «cap»)) }
         ensures long { IfOk result (λ d. (length scope.now ≤ 8 → vec_len d.bytes ≡ vec_len self.bytes + 14)) }
     {
-        self.header(Kind::Load as u8, scope)?
-            .raw(&cap.to_le_bytes())
+        self.header(Kind::Load, scope)?.raw(&cap.to_le_bytes())
     }
 
     // What an option weighs at a position of the newest sheet's scope.
@@ -121,7 +111,7 @@ impl Draft {
         ensures bytes { IfOk result (λ d. d.bytes.items ≡ self.bytes.items ++ 6 ∷ position ∷ option ∷ two_bytes amount) }
         ensures long { IfOk result (λ d. vec_len d.bytes ≡ vec_len self.bytes + 5) }
     {
-        self.raw(&[Kind::Weight as u8, position, option])?
+        self.raw(&[Kind::Weight.code(), position, option])?
             .raw(&amount.to_le_bytes())
     }
 
@@ -130,7 +120,7 @@ impl Draft {
         ensures bytes { IfOk result (λ d. d.bytes.items ≡ self.bytes.items ++ 7 ∷ []) }
         ensures long { IfOk result (λ d. vec_len d.bytes ≡ vec_len self.bytes + 1) }
     {
-        self.raw(&[Kind::End as u8])
+        self.raw(&[Kind::End.code()])
     }
 
     // The file with one byte changed, if it has a byte at the place.
