@@ -1,5 +1,4 @@
 pub mod Sifting
-pub mod Reading
 pub mod Rowing
 pub mod Masking
 pub mod Marking

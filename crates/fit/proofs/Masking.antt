@@ -1,31 +1,14 @@
 -- Masks gathered row by row. Assumes nothing.
-use Rattle.std.proofs.Common.{◌≡◌, ℕ, ◌+◌, ◌-◌, ◌*◌, ◌/◌, ◌%◌, ◌^◌, ◌<◌, ◌≤◌, List, length, get_or, set, replicate, sym, refl, ap, ◌∙◌, subst, ⊎_elim, one-mul, arith, length-set, get_or-set_other, get_or-set_same, below_more}
-use native.Mathlib.Nat.{div-eq_of_lt, mul-mod_left, zero-div}
+use Rattle.std.proofs.Common.{◌≡◌, ℕ, ◌+◌, ◌*◌, ◌/◌, ◌%◌, ◌^◌, ◌<◌, ◌≤◌, List, length, get_or, set, replicate, sym, refl, ap, ◌∙◌, subst, ⊎_elim, arith, length-set, get_or-set_other, get_or-set_same, below_more}
+use native.Mathlib.Nat.{zero-div}
 use lib.Bits.{bit_or}
 use lib.ListN.{get_or-replicate}
-use Rattle.std.proofs.lemmas.Nat.{or_comm, or_shr, or_mod, shl-shr, pow-add, pow_below, one_shl}
-use Rattle.std.proofs.lemmas.Bool.{cases_eq, cases_order, cases_lt}
+use Rattle.std.proofs.lemmas.Nat.{or_comm, or_shr, or_mod, one_shl}
+use Rattle.std.proofs.lemmas.Bool.{cases_eq, cases_lt}
 use Rattle.boxes.specs.Boxes.{Open, Bit}
-use Rattle.boxes.proofs.Bits.{bit}
+use Rattle.boxes.proofs.Bits.{bit, bit_here, bit_other}
 use Rattle.sheets.specs.Tables.{option_at}
 use Rattle.fit.specs.Rows.{Backed, Mask, Gathered}
-
--- the bits of a power of two
-bit_here : (o : ℕ) → bit (2 ^ o) o ≡ 1
-bit_here o = ap (λ n. n % 2) (ap (λ n. n / 2 ^ o) (sym (one-mul (2 ^ o))) ∙ shl-shr 1 o)
-
-bit_low : (d k : ℕ) → bit (2 ^ ((d + 1) + k)) k ≡ 0
-bit_low d k =
-    ap (λ n. (n / 2 ^ k) % 2) (pow-add 2 (d + 1) k) ∙ ap (λ n. n % 2) (shl-shr (2 ^ (d + 1)) k ∙ pow-add 2 d 1) ∙ mul-mod_left (2 ^ d) 2
-
-bit_other : (o k : ℕ) → (k ≡ o → ⊥) → bit (2 ^ o) k ≡ 0
-bit_other o k ne =
-    ⊎_elim
-    (λ e. absurd (ne e))
-    (⊎_elim
-    (λ h. let e : o ≡ ((o - k - 1) + 1) + k = omega arith in subst (λ (n : ℕ). bit (2 ^ n) k ≡ 0) (sym e) (bit_low (o - k - 1) k))
-    (λ h. ap (λ n. n % 2) (div-eq_of_lt (pow_below o k h))))
-    (cases_order k o)
 
 -- one bit more
 bit_or_lem : (a b k : ℕ) → bit (bit_or a b) k ≡ bit_or (bit a k) (bit b k)

@@ -16,7 +16,7 @@ use Rattle.sheets.specs.Rules.{rule, Fresh}
 use Rattle.sheets.specs.Tables.{Taken, shown_in, sheets_in, row_at}
 use Rattle.sheets.proofs.Chosen.{taken_of, taken_sheets}
 use Rattle.sheets.proofs.Entries.{entries_rows, row_at_lem, row_long, row_low}
-use Rattle.sheets.proofs.Scopes.{scope_apart, scope_low}
+use Rattle.sheets.proofs.Scopes.{GoodScope, scope_at}
 use Rattle.sheets.proofs.Tabled.{At, at, sheets_long, none_at}
 use Rattle.fit.specs.Laid.{scope_of, row_count, rows_before, row_of, Sound, Each, Apart, Runs, Laid}
 use Rattle.fit.specs.Meaning.{keeps, fitting, scope_here, same_decides, keeps_decides}
@@ -82,13 +82,16 @@ module _ (views : List View) (n : ℕ) (t : Taken Fit views n) (whole : n ≤ le
   here : (s : ℕ) → s < n → At t.options Fit t.sheets views s
   here s h = at Fit views n t s h whole
 
+  scopes : (s : ℕ) → s < n → GoodScope (scope_of views s)
+  scopes = scope_at Fit views n ∣ t ∣₁ whole
+
   sound : Sound views n
   sound =
       record {
-        some = λ s h. let a = here s h in subst (λ sc. 1 ≤ length sc) (sym (scope_is _ _ views s a)) a.good.some;
-        short = λ s h. let a = here s h in subst (λ sc. length sc ≤ 8) (sym (scope_is _ _ views s a)) a.good.few;
-        slots = λ s p h. let a = here s h in subst (λ sc. p < length sc → get_or sc p 0 < 48) (sym (scope_is _ _ views s a)) (scope_low t.options a.sheet a.good t.slots p);
-        apart = λ s p q h lt. let a = here s h in subst (λ sc. q < length sc → get_or sc p 0 ≡ get_or sc q 0 → ⊥) (sym (scope_is _ _ views s a)) (scope_apart t.options a.sheet a.good p q lt);
+        some = λ s h. (scopes s h).some;
+        short = λ s h. (scopes s h).short;
+        slots = λ s p h. (scopes s h).covered p;
+        apart = λ s p q h. (scopes s h).apart p q;
         long = λ s r h k. let a = here s h in ap length (row_is _ _ views s a r k) ∙ row_long t.options a.sheet a.good r (omega (arith, count_is _ _ views s a)) ∙ ap length (sym (scope_is _ _ views s a));
         options = λ s r p h k l. let a = here s h in subst (λ x. get_or x p 0 < 32) (sym (row_is _ _ views s a r k)) (row_low t.options a.sheet a.good t.sizes r p);
       }

@@ -13,9 +13,8 @@ use Rattle.fit.specs.Runs.{Among}
 use Rattle.fit.specs.Rows.{Suits, Whole, Low, Gathered}
 use Rattle.fit.specs.Laid.{scope_of, entries_of, row_count, row_of, Laid}
 use Rattle.fit.specs.Meaning.{Keeps, keeps, kept_at, fitting, Exact, scope_here, keeps_decides, kept_decides, from_T, to_T}
-use Rattle.fit.proofs.Reading.{suits_at}
 use Rattle.fit.proofs.Sifting.{Mixed, SiftedRun, Lies}
-use Rattle.fit.proofs.Rowing.{row_there, fits_row, suits_row, option_row}
+use Rattle.fit.proofs.Rowing.{suits_at, row_there, fits_row, suits_row, option_row}
 
 -- tests of the same are the same
 alike : {P Q : Type 0} (a b : Bool) → Decides a P → Decides b Q → (P → Q) → (Q → P) → a ≡ b

@@ -16,7 +16,6 @@ use sheets::taking::sheets_of;
 
 // How many rows a sheet has.
 fn row_count(sheets: &Sheets, sheet: usize) -> usize
-    requires { sheet < sheets.now.count }
     ensures { result ≡ row_count sheets.now.views sheet }
 {
     let view = sheets.view(sheet);

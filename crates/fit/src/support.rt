@@ -3,7 +3,7 @@ ghost use Rattle.std.specs.Prelude.{length};
 ghost use Rattle.fit.specs.Rows.{Whole, Low, Gathered};
 
 use boxes::OptionBox;
-use sheets::sheet::{ROW, Sheet};
+use sheets::sheet::Sheet;
 
 // The masks of the positions, from the rows of a sheet whose numbers are given. A position is done with once
 // all that its slot has open is supported.
@@ -16,7 +16,7 @@ pub(crate) fn supports(rows: &[u16], sheet: &Sheet, slate: &OptionBox) -> [u32; 
     'positions: for (position, slot) in sheet.scope.slots.iter().enumerate() {
         let open = slate.cells[*slot as usize];
         'rows: for row in rows {
-            masks[position] |= 1 << sheet.entries[ROW * *row as usize + 1 + position];
+            masks[position] |= 1 << sheet.row(*row as usize)[position];
             if masks[position] == open {
                 continue 'positions;
             }
