@@ -2,7 +2,6 @@
 use catalogue::checked::Catalogue;
 use checker::check;
 use samples::draft::Draft;
-use std::alloc::AllocError;
 use std::io;
 
 fn judge(rt: &HostRuntime, name: &str, file: &[u8]) -> io::Result<()> {
@@ -14,16 +13,16 @@ fn judge(rt: &HostRuntime, name: &str, file: &[u8]) -> io::Result<()> {
 }
 
 // A file that has no end yet: it is ended first.
-pub fn case(rt: &HostRuntime, name: &str, file: Result<Draft, AllocError>) -> io::Result<()> {
-    judge(rt, name, file?.end()?.as_slice())
+pub fn case(rt: &HostRuntime, name: &str, file: Draft) -> io::Result<()> {
+    judge(rt, name, file.end()?.as_slice())
 }
 
 // A file as it is.
-pub fn bare(rt: &HostRuntime, name: &str, file: Result<Draft, AllocError>) -> io::Result<()> {
-    judge(rt, name, file?.as_slice())
+pub fn bare(rt: &HostRuntime, name: &str, file: Draft) -> io::Result<()> {
+    judge(rt, name, file.as_slice())
 }
 
 // A file without its last byte.
-pub fn cut(rt: &HostRuntime, name: &str, file: Result<Draft, AllocError>) -> io::Result<()> {
-    judge(rt, name, file?.cut().as_slice())
+pub fn cut(rt: &HostRuntime, name: &str, file: Draft) -> io::Result<()> {
+    judge(rt, name, file.cut().as_slice())
 }

@@ -1,5 +1,4 @@
 // What a lent catalogue holds after faults and after an accepted file.
-use crate::chain::Chain;
 use crate::example::records;
 use catalogue::checked::Catalogue;
 use catalogue::make::Make;
@@ -50,23 +49,20 @@ fn show_sheet(rt: &HostRuntime, held: &Catalogue, make: Make, i: usize) -> io::R
 }
 
 fn show_slots(rt: &HostRuntime, held: &Catalogue) -> io::Result<()> {
-    show_options(rt, held, 0)?;
-    show_options(rt, held, 1)?;
-    show_options(rt, held, 2)?;
-    show_options(rt, held, 3)
+    for slot in 0..4 {
+        show_options(rt, held, slot)?;
+    }
+    Ok(())
 }
 
 fn show_sheets(rt: &HostRuntime, held: &Catalogue) -> io::Result<()> {
-    show_count(rt, held, Make::Fit)?;
-    show_sheet(rt, held, Make::Fit, 0)?;
-    show_sheet(rt, held, Make::Fit, 1)?;
-    show_sheet(rt, held, Make::Fit, 2)?;
-    show_count(rt, held, Make::Bar)?;
-    show_sheet(rt, held, Make::Bar, 0)?;
-    show_sheet(rt, held, Make::Bar, 1)?;
-    show_count(rt, held, Make::Load)?;
-    show_sheet(rt, held, Make::Load, 0)?;
-    show_sheet(rt, held, Make::Load, 1)
+    for (make, sheets) in [(Make::Fit, 3), (Make::Bar, 2), (Make::Load, 2)] {
+        show_count(rt, held, make)?;
+        for i in 0..sheets {
+            show_sheet(rt, held, make, i)?;
+        }
+    }
+    Ok(())
 }
 
 // The built-in catalogue stays through a fault, gives way to an accepted file, and that stays in turn.
@@ -82,8 +78,8 @@ fn show<'a>(rt: &HostRuntime, good: &'a [u8], bad: &'a [u8]) -> io::Result<()> {
 // The example with a load sheet, and the example with a row that is wrong.
 pub fn run(rt: &HostRuntime) -> io::Result<()> {
     let heap = rt.alloc();
-    let sheets = records(heap).load(&[2, 0], -7);
-    let good = sheets.weight(0, 2, 30).weight(1, 1, -40).end()?;
-    let bad = records(heap).end()?.with(100, 0x02);
+    let sheets = records(heap)?.load(&[2, 0], -7)?;
+    let good = sheets.weight(0, 2, 30)?.weight(1, 1, -40)?.end()?;
+    let bad = records(heap)?.end()?.with(100, 0x02);
     show(rt, good.as_slice(), bad.as_slice())
 }

@@ -4,7 +4,6 @@
 
 mod bases;
 mod case;
-mod chain;
 mod ends;
 mod example;
 mod held;

@@ -1,15 +1,12 @@
 -- What additions in a row come to, each as long as the others. Assumes nothing.
 use Rattle.std.proofs.Common.{◌≡◌, ℕ, ◌+◌, ◌-◌, ◌*◌, ◌≤◌, List, [], ◌∷◌, length, IfOk, Ok, Err, Result, Option, Some, None, MatchOption, IsErr, IsErrAnd, sym, refl, ap, ◌∙◌, subst, arith}
 use Rattle.std.proofs.iter.Yields.{nat_range_steps}
+use Rattle.std.proofs.lemmas.Result.{IfOk-from_err}
 use Rattle.std.specs.declared.ops.Range.{Range}
 use Rattle.std.specs.Iterator.{Yields, YieldsThen}
 use Rattle.std.specs.List.{FoldsTo}
 use denote.Param.Members.{Mut, Called}
 use Prim.{tt}
-
-after_err : {B X : Type 0} (r : Result B X) (P : B → Type 0) → IsErr r → IfOk r P
-after_err (Ok b) P h = cc
-after_err (Err e) P h = tt
 
 module _ {F B X E : Type 0} (out : E → X) (g : Mut F (B × (ℕ × Unit {0})) (Result B X)) where
   -- a call at p and a number went on to q
@@ -45,4 +42,4 @@ module _ {F B X E : Type 0} (out : E → X) (g : Mut F (B × (ℕ × Unit {0})) 
             let w = turns xs s t (f, a) (h, b) refl ys ws in
             let all : length xs ≡ s.end - s.start = omega (arith, w, l) in
             subst (λ r. IfOk r (λ b. size b ≡ size a + n)) (sym m) (w.0 ∙ ap (λ i. size a + i) (ap (λ i. k * i) all ∙ e))
-        by (Some x) l m = after_err r _ m.5.0
+        by (Some x) l m = IfOk-from_err r _ m.5.0
