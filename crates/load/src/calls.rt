@@ -27,10 +27,11 @@ impl<'a> Load<'a> {
     {
         let sheets = sheets_of(catalogue, Make::Load);
         let weights = tables_of(&sheets);
+        let marks = Marks::none();
         Load {
             sheets,
             weights,
-            marks: Marks::none(),
+            marks,
         }
     }
 }

@@ -20,5 +20,5 @@ returns c =
     let k = c.args.catalogue.now in
     let x = c.sheets_of-sheets.result in
     let tables = tables_in c.tables_of-weights.result in
-    subst (λ n. Fresh (sheets_in (content k.bytes.now) Load) (loading x.views x.count tables n)) (sym c.none.ensures)
+    subst (λ n. Fresh (sheets_in (content k.bytes.now) Load) (loading x.views x.count tables n)) (sym c.none-marks.ensures)
     (fresh k.bytes.now k.counts k.accepted k.octets x.views x.count tables c.sheets_of-sheets.ensures.is (omega (arith, x.few, x.long)) c.tables_of-weights.ensures)
