@@ -24,12 +24,12 @@ impl<'a> Sheet<'a> {
         self.entries.len() / ROW
     }
 
-    // The options of row r, counted from 0: one for each slot of the scope.
+    // The options of row r, counted from 0, one for each slot of the scope; what lies past the last row has fewer or none.
     pub fn row(&self, r: usize) -> &'a [u8]
-        requires { 9 * r + 9 ≤ length self.now.entries.now }
         ensures { result.now ≡ row_at self.now.entries.now (length self.now.scope.slots.now) r }
     {
-        let first = ROW * r + 1;
-        &self.entries[first..first + self.scope.slots.len()]
+        let first = ROW.saturating_mul(r).saturating_add(1);
+        let behind = &self.entries[first.min(self.entries.len())..];
+        &behind[..self.scope.slots.len().min(behind.len())]
     }
 }
