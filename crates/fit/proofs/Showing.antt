@@ -1,5 +1,6 @@
 -- One sheet sifted and its box narrowed: what that comes to for the binder. Assumes nothing.
-use Rattle.std.proofs.Common.{◌≡◌, ℕ, ◌+◌, ◌*◌, ◌<◌, ◌≤◌, Bool, List, [], length, get_or, set, Decides, sym, refl, ap, ◌∙◌, subst, ⊎_elim, arith, length-set, get_or-set_other, get_or-set_same}
+use Rattle.std.proofs.Common.{◌≡◌, ℕ, ◌+◌, ◌*◌, ◌<◌, ◌≤◌, Bool, List, [], length, get_or, set, take, Decides, sym, refl, ap, ◌∙◌, subst, ⊎_elim, arith, length-set, get_or-set_other, get_or-set_same}
+use borrow.Rule.Slice.PartMut.{mid_of, put_mid}
 use Rattle.std.proofs.lemmas.Bool.{cases_eq, cases_lt}
 use Rattle.std.proofs.lemmas.Bool.Decides.{same_from_decides, Decides-like}
 use Rattle.catalogue.specs.declared.view.View.{View}
@@ -9,11 +10,11 @@ use Rattle.binder.specs.Meaning.{Binding, Shown}
 use Rattle.sheets.specs.Closing.{Narrowed, shorter}
 use Rattle.sheets.specs.Tables.{scope_in, option_at}
 use Rattle.sheets.proofs.Narrowing.{Masks, shown_by_masks}
-use Rattle.fit.specs.Runs.{Among}
+use Rattle.fit.specs.Runs.{Among, Sifted}
 use Rattle.fit.specs.Rows.{Suits, Whole, Low, Gathered}
 use Rattle.fit.specs.Laid.{scope_of, entries_of, row_count, row_of, Laid}
 use Rattle.fit.specs.Meaning.{Keeps, keeps, kept_at, fitting, Exact, scope_here, keeps_decides, kept_decides, from_T, to_T}
-use Rattle.fit.proofs.Sifting.{Mixed, SiftedRun, Lies}
+use Rattle.fit.proofs.Sifting.{Mixed, SiftedRun, Lies, sifted_part, lies_left}
 use Rattle.fit.proofs.Rowing.{suits_at, row_there, fits_row, suits_row, option_row}
 
 -- tests of the same are the same
@@ -31,6 +32,10 @@ lowered counts s left h le t =
 moved : (views : List View) (starts order order' : List ℕ) (s n m : ℕ) (l : List ℕ) → ((v : ℕ) → Among order (get_or starts s 0) n v → Among order' (get_or starts s 0) m v) → Keeps views starts order s n l → Keeps views starts order' s m l
 moved views starts order order' s n m l f z = record { row = z.row; among = f z.row z.among; reads = z.reads }
 
+-- what holds of a sheet's scope and entries holds of what the code read
+pub at_sheet : (a a' e e' : List ℕ) (P : List ℕ → List ℕ → Type 0) → a ≡ a' → e ≡ e' → P a e → P a' e'
+at_sheet a a' e e' P p q h = subst (λ y. P a' y) q (subst (λ y. P y e) p h)
+
 module _ (views : List View) (count : ℕ) (starts order counts : List ℕ) (saved : List (List ℕ)) (marks : ℕ) (x : Laid views count starts order counts saved marks) (s : ℕ) (hs : s < count) where
   -- what a sift asks of the run
   pub whole : (run : List ℕ) → Lies order run (get_or starts s 0) (get_or counts s 0) → Whole run (entries_of views s)
@@ -41,6 +46,18 @@ module _ (views : List View) (count : ℕ) (starts order counts : List ℕ) (sav
             subst (λ (v : ℕ). 9 * v + 9 ≤ length (entries_of views s)) (at.at p lt)
             (row_there views s (get_or order (get_or starts s 0 + p) 0) (x.rows s p hs (omega (arith, x.within s hs))));
       }
+
+  -- a sift of the run, by what the code read of the sheet
+  module _ (b next scope entries : List ℕ) (k left : ℕ) (is_scope : scope ≡ scope_of views s) (is_entries : entries ≡ entries_of views s) (all : k ≡ get_or counts s 0) (room : length order ≡ 4096)
+      (sifted : Sifted (Suits b scope entries) (mid_of (get_or starts s 0) k order) next left) where
+    at_run : Sifted (Suits b (scope_of views s) (entries_of views s)) (mid_of (get_or starts s 0) k order) next left
+    at_run = at_sheet _ _ _ _ (λ sc es. Sifted (Suits b sc es) (mid_of (get_or starts s 0) k order) next left) is_scope is_entries sifted
+
+    pub sifted_here : SiftedRun (Suits b (scope_of views s) (entries_of views s)) order (put_mid (get_or starts s 0) k order next) (get_or starts s 0) (get_or counts s 0) left
+    sifted_here = sifted_part _ order next (get_or starts s 0) k (get_or counts s 0) left all (omega (arith, x.room s hs, x.within s hs)) at_run
+
+    pub left_here : Lies (put_mid (get_or starts s 0) k order next) (take left (mid_of (get_or starts s 0) k (put_mid (get_or starts s 0) k order next))) (get_or starts s 0) left
+    left_here = lies_left _ order next (get_or starts s 0) k (get_or counts s 0) left all (omega (arith, x.room s hs, x.within s hs)) at_run
 
   module _ (order' b : List ℕ) (left : ℕ) (sifted : SiftedRun (Suits b (scope_of views s) (entries_of views s)) order order' (get_or starts s 0) (get_or counts s 0) left) where
     mixed : Mixed order order' (get_or starts s 0) (get_or counts s 0)
@@ -229,10 +246,6 @@ module _ (views : List View) (count : ℕ) (starts order counts : List ℕ) (sav
               (λ z. (z.0, (z.1.0, moved views starts order' order t n n l (run_back t n z.1.0 (x.above i t z.0 z.1.0) (x.capped i t z.0 z.1.0)) z.1.1)))
               (λ z. (z.0, (z.1.0, moved views starts order order' t n n l (run_into t n z.1.0 (x.above i t z.0 z.1.0) (x.capped i t z.0 z.1.0)) z.1.1)));
         }
-
--- what holds of a sheet's scope and entries holds of what the code read
-pub at_sheet : (a a' e e' : List ℕ) (P : List ℕ → List ℕ → Type 0) → a ≡ a' → e ≡ e' → P a e → P a' e'
-at_sheet a a' e e' P p q h = subst (λ y. P a' y) q (subst (λ y. P y e) p h)
 
 pub narrowed_all : (b c scope scope' masks : List ℕ) → length scope' ≤ 8 → length masks ≡ 8 → scope ≡ scope' → Narrowed b c scope masks (shorter scope masks) → Narrowed b c scope' masks (length scope')
 narrowed_all b c scope scope' masks few long e h =
