@@ -1,13 +1,15 @@
 -- The steps of the counting loops. Assumes nothing.
-use Rattle.std.proofs.Common.{◌≡◌, ℕ, ◌+◌, ◌*◌, ◌%◌, ◌^◌, ◌<◌, ◌≤◌, List, [], ◌++◌, length, get_or, take, drop, set, replicate, sym, ap, refl, ◌∙◌, subst, ⊎_elim, arith, length-set, length-drop, get_or-set_other, get_or-set_same, below_more, w32}
+use Rattle.std.proofs.Common.{◌≡◌, ℕ, ◌+◌, ◌*◌, ◌%◌, ◌^◌, ◌<◌, ◌≤◌, List, [], ◌++◌, length, get_or, take, drop, set, replicate, sym, ap, refl, ◌∙◌, subst, ⊎_elim, arith, length-drop, get_or-set_other, get_or-set_same, below_more, w32}
 use lib.Bits.{bit_or}
+use lib.Count.{ones}
 use Rattle.std.proofs.lemmas.Nat.Bits.{bit_at-zero, bit_at_set_same, bit_at_set_other}
 use Rattle.std.proofs.lemmas.List.{get_or-replicate, drop_at, drop-drop, drop-append-le, take-append-le, length-append}
-use Rattle.std.proofs.lemmas.Bool.{cases_eq, cases_lt}
+use Rattle.std.proofs.lemmas.Bool.{cases_eq}
 use Rattle.boxes.specs.Boxes.{Open, Fits, Bit}
 use Rattle.sheets.specs.Tables.{row_at}
 use Rattle.bar.specs.Counted.{Counts, product}
-use Rattle.bar.specs.Tally.{Bears, Tallied, Fewer, Room, Marks}
+use Rattle.bar.specs.Tally.{Measures, Bears, Tallied, Fewer, Room, Marks}
+use Rattle.bar.proofs.Bitcount.{counts_ones}
 use Rattle.bar.proofs.Counting.{counts_none, counts_yes, counts_no, counts_same}
 
 -- row r is nine bytes of the entries, and the next row is behind it
@@ -89,30 +91,16 @@ module _ (options : List ℕ) (n : ℕ) (xs ys : List (List ℕ)) (was : Tallied
       }
 
 -- the open options of a slot are the bits of its cell
-pub open_count : (b : List ℕ) (s n : ℕ) → Counts (Bit (get_or b s 0)) 32 n → Counts (Open b s) 32 n
+open_count : (b : List ℕ) (s n : ℕ) → Counts (Bit (get_or b s 0)) 32 n → Counts (Open b s) 32 n
 unfolding Open Bit
 open_count b s n k = counts_same (Bit (get_or b s 0)) (Open b s) 32 n (λ o h q. (h, q)) (λ o h q. q.1) k
 
--- the sizes of the first n positions, and 1 at the others
-pub record Measured (b scope : List ℕ) (n : ℕ) (sizes : List ℕ) : Type 0 where
-  pub long : length sizes ≡ 8
-  pub counts : (p : ℕ) → p < n → Counts (Open b (get_or scope p 0)) 32 (get_or sizes p 0)
-  pub past : (p : ℕ) → n ≤ p → p < 8 → get_or sizes p 0 ≡ 1
-
-pub measured_none : (b scope : List ℕ) → Measured b scope 0 (replicate 8 1)
-measured_none b scope = record { long = refl; counts = λ p h. absurd (omega arith); past = λ p h l. get_or-replicate 8 p 1 0 l }
-
-pub measured_more : (b scope sizes : List ℕ) (n many : ℕ) → n < 8 → Counts (Bit (get_or b (get_or scope n 0) 0)) 32 many → Measured b scope n sizes → Measured b scope (n + 1) (set sizes n many)
-measured_more b scope sizes n many h here was = record {
-  long = simp length-set was.long;
-  counts = below_more (λ p. Counts (Open b (get_or scope p 0)) 32 (get_or (set sizes n many) p 0)) n
-      (λ p q. subst (λ (m : ℕ). Counts (Open b (get_or scope p 0)) 32 m) (sym (get_or-set_other sizes n p many 0 (λ e. omega arith))) (was.counts p q))
-      (subst (λ (m : ℕ). Counts (Open b (get_or scope n 0)) 32 m) (sym (get_or-set_same sizes n many 0 (omega (arith, was.long)))) (open_count b (get_or scope n 0) many here));
-  past = λ p q l. get_or-set_other sizes n p many 0 (λ e. omega arith) ∙ was.past p (omega arith) l;
-}
-
-pub measured_low : (b scope sizes : List ℕ) (n : ℕ) → Measured b scope n sizes → (p : ℕ) → p < 8 → get_or sizes p 0 ≤ 32
-measured_low b scope sizes n m p h = ⊎_elim (λ l. (m.counts p l).few) (λ l. omega (arith, m.past p l h)) (cases_lt p n)
+-- the size of a position that is there, by the cell of its slot
+pub measured : (b scope : List ℕ) (p slot : ℕ) → p < length scope → slot ≡ get_or scope p 0 → get_or b slot 0 < 2 ^ 32 → Measures b scope p (ones (get_or b slot 0))
+measured b scope p slot h e low =
+    let k : Counts (Open b (get_or scope p 0)) 32 (ones (get_or b slot 0)) =
+    subst (λ (s : ℕ). Counts (Open b s) 32 (ones (get_or b slot 0))) e (open_count b slot _ (counts_ones (get_or b slot 0) 32 low)) in
+    record { counts = λ l. k; past = λ l. absurd (omega arith); few = k.few }
 
 -- the bits of a mask, one by one
 module _ (P : ℕ → Type 0) where

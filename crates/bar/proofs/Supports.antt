@@ -6,7 +6,7 @@ use Rattle.boxes.specs.Boxes.{Open, Fits}
 use Rattle.boxes.proofs.Bits.{open_low}
 use Rattle.sheets.specs.Tables.{row_at}
 use Rattle.bar.specs.Counted.{In, NoDup, Counts, product}
-use Rattle.bar.specs.Tally.{Bears, Room, Marks, RowsApart, Spared, Backs}
+use Rattle.bar.specs.Tally.{Measures, Bears, Room, Marks, RowsApart, Spared, Backs}
 use Rattle.bar.proofs.Products.{product_front}
 use Rattle.bar.proofs.Points.{Chosen, Apiece, in_map, of_map, once_map, pigeonhole}
 
@@ -143,18 +143,17 @@ module _ (b scope entries ns : List ℕ) (total : ℕ)
 
 -- the whole
 pub backs : (b scope entries sizes : List ℕ) (counts : List (List ℕ)) (masks : List ℕ) (total : ℕ) → length scope ≤ 8 → length sizes ≡ 8 → RowsApart entries (length scope) total
-    → ((p : ℕ) → p < length scope → Counts (Open b (get_or scope p 0)) 32 (get_or sizes p 0))
-    → ((p : ℕ) → length scope ≤ p → p < 8 → get_or sizes p 0 ≡ 1)
+    → ((p : ℕ) → p < 8 → Measures b scope p (get_or sizes p 0))
     → ((p o : ℕ) → p < length scope → o < 32 → Counts (Bears b scope entries p o) total (get_or (get_or counts p []) o 0))
     → ((p : ℕ) → p < 8 → Marks (Room (get_or counts p []) sizes p) 32 (get_or masks p 0))
     → Backs b scope entries total masks
-backs b scope entries sizes counts masks total short eight apart each past tallied marked =
+backs b scope entries sizes counts masks total short eight apart each tallied marked =
     let ns = take (length scope) sizes in
     let long : length scope ≡ length (take (length scope) sizes) = simp length-take (omega arith) in
     let z : Sized b scope (take (length scope) sizes) = sized_from b scope (take (length scope) sizes) long
-    (λ q h. subst (λ (n : ℕ). Counts (Open b (get_or scope q 0)) 32 n) (sym (get_or-take (length scope) sizes q 0 h)) (each q h)) in
+    (λ q h. subst (λ (n : ℕ). Counts (Open b (get_or scope q 0)) 32 n) (sym (get_or-take (length scope) sizes q 0 h)) ((each q (omega arith)).counts h)) in
     let front : (p : ℕ) → p < length scope → product (set (take (length scope) sizes) p 1) ≡ product (set sizes p 1) =
-    λ p h. product_front sizes (length scope) p h (λ q l k. past q l (omega arith)) in
+    λ p h. product_front sizes (length scope) p h (λ q l k. (each q (omega arith)).past l) in
     record {
       sound = λ p o hp here h.
           spared_if b scope entries (take (length scope) sizes) total apart z p o (get_or (get_or counts p []) o 0) hp here (tallied p o hp (open_low b (get_or scope p 0) o here))

@@ -2,14 +2,23 @@
 // fits the box and is not among the rows. Rows are all different, so such a list is left exactly where
 // fewer fitting rows have the option than there are fitting lists that do.
 ghost use Rattle.std.specs.Prelude.{◌≡◌, ℕ, ◌/◌, ◌<◌, ◌≤◌, [], length, slice_index, slice_index_or, slice_set};
-ghost use Rattle.boxes.specs.Boxes.{Open};
 ghost use Rattle.bar.specs.Counted.{Counts, product};
-ghost use Rattle.bar.specs.Tally.{Bears, Tallied, Fewer, Room, Marks, RowsApart, Backs};
+ghost use Rattle.bar.specs.Tally.{Measures, Bears, Tallied, Fewer, Room, Marks, RowsApart, Backs};
 
 use boxes::OptionBox;
 use sheets::scope::Scope;
 use sheets::sheet::{ROW, Sheet};
 use std::array;
+
+// How many options are open at a position of a scope; past its last, 1.
+fn size_at(scope: &Scope, slate: &OptionBox, position: usize) -> u64
+    ensures { Measures slate.now.cells scope.now.slots.now position result }
+{
+    match scope.slots.get(position) {
+        Some(slot) => u64::from(slate.cells[*slot as usize].count_ones()),
+        None => 1,
+    }
+}
 
 // How many options are open at each position of a scope, and 1 at each position past its last.
 #[derive(Drop)]
@@ -22,14 +31,11 @@ struct Sizes {
 
 impl Sizes {
     fn of(scope: &Scope, slate: &OptionBox) -> Sizes
-        ensures open { (p : ℕ) → p < length scope.now.slots.now → Counts (Open slate.now.cells (slice_index scope.now.slots.now p)) 32 (slice_index result.each p) }
-        ensures past { (p : ℕ) → length scope.now.slots.now ≤ p → p < 8 → slice_index result.each p ≡ 1 }
+        ensures { (p : ℕ) → p < 8 → Measures slate.now.cells scope.now.slots.now p (slice_index result.each p) }
     {
-        let mut each = [1; 8];
-        for (position, slot) in scope.slots.iter().enumerate() {
-            each[position] = u64::from(slate.cells[*slot as usize].count_ones());
+        Sizes {
+            each: array::from_fn(|position| size_at(scope, slate, position)),
         }
-        Sizes { each }
     }
 
     // How many lists fit the box and have a given open option at a position: the product of the other sizes,

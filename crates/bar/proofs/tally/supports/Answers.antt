@@ -7,4 +7,4 @@ returns c =
     let sizes = c.of-sizes in
     let sheet = c.args.sheet.now in
     backs c.args.slate.now.cells sheet.scope.slots.now sheet.entries.now sizes.result.each c.of.result.counts c.masks.result (length sheet.entries.now / 9)
-    sheet.scope.short sizes.result.long c.requires.apart sizes.ensures.open sizes.ensures.past c.of.ensures c.masks.ensures
+    sheet.scope.short sizes.result.long c.requires.apart sizes.ensures c.of.ensures c.masks.ensures
