@@ -1,6 +1,6 @@
 -- How an input is split into its lines. Assumes nothing.
-use Rattle.std.proofs.Common.{◌≡◌, ℕ, zero, suc, ◌+◌, ◌-◌, ◌<◌, ◌≤◌, true, false, cond, eqb, ◌⊎◌, List, [], ◌∷◌, ◌++◌, length, get_or, take, drop, Some, None, Option, unwrap_or, sym, refl, ap, ◌∙◌, subst, inl, inr, ⊎_elim, add-one, arith}
-use Rattle.std.proofs.lemmas.List.{length-drop, length-append, take_at, drop_at, get_or_append_left}
+use Rattle.std.proofs.Common.{◌≡◌, ℕ, zero, suc, ◌+◌, ◌-◌, ◌<◌, ◌≤◌, true, false, cond, eqb, ◌⊎◌, List, [], ◌∷◌, ◌++◌, length, get_or, take, drop, Some, None, Option, unwrap_or, sym, refl, ap, ◌∙◌, subst, inl, inr, add-one, arith}
+use Rattle.std.proofs.lemmas.List.{length-drop}
 use Rattle.std.specs.List.{position, position_or_len}
 use Rattle.std.proofs.lemmas.List.Recursion.{is_position_or_len}
 use Rattle.std.proofs.lemmas.List.Sums.{prefix_len-le-length}
@@ -64,14 +64,3 @@ whole_behind bs None n none is =
 whole_behind bs (Some i) n (below, at, behind) is =
     let ended : get_or bs (n - 1) 0 ≡ 10 = ap (λ k. get_or bs k 0) (omega arith) ∙ at in
     record { within = omega arith; ended = inr ended; last = λ k from. behind k (omega arith); splits = cut_whole n bs (omega arith) (inr ended) }
-
--- behind whole lines, an input goes on with the lines of what follows
-pub lines_append : (xs ys : List ℕ) → (length xs ≡ 0) ⊎ (get_or xs (length xs - 1) 0 ≡ 10) → lines_of (xs ++ ys) ≡ lines_of xs ++ lines_of ys
-lines_append xs ys e =
-    let within : length xs ≤ length (xs ++ ys) = omega (arith, length-append xs ys) in
-    let ended = ⊎_elim (λ none. inl none) (λ at. inr (ended_there xs ys at)) e in
-    cut_whole (length xs) (xs ++ ys) within ended ∙ (λ i. lines_of (take_at xs ys (length xs) refl i) ++ lines_of (drop_at xs ys (length xs) refl i))
-  where
-    ended_there : (xs ys : List ℕ) → get_or xs (length xs - 1) 0 ≡ 10 → get_or (xs ++ ys) (length xs - 1) 0 ≡ 10
-    ended_there [] ys at = absurd (omega arith)
-    ended_there (x ∷ xs) ys at = get_or_append_left (x ∷ xs) ys 0 (suc (length xs) - 1) (omega arith) ∙ at

@@ -8,9 +8,6 @@ use Rattle.subject.specs.Decisions.{Decision, Forbids, Within, Largest}
 pub largest_within : (P : Problem) (D : List Decision) (X : Box) → Largest P D X → Within D X
 largest_within P D X big s o t = let w = (big s o).0 t in w.2 s o w.3
 
-pub largest_inside : (P : Problem) (X Y : Box) → LargestIn P X Y → Inside Y X
-largest_inside P X Y big s o t = let z = (big s o).0 t in z.2 s o z.3
-
 -- Closing what has no support loses no supported box: every supported box within X lies in Y.
 abbrev pub Left : Problem → Box → Box → Type 0
 Left P X Y = Inside Y X × ((Z : Box) → Supported P Z → Inside Z X → Inside Z Y)

@@ -1,7 +1,8 @@
 // A plan, as it is answered.
 ghost use Rattle.std.specs.Prelude.{◌≡◌, ◌≤◌, length, take};
 
-// The options of so many slots from slot 0 on. The other options say nothing.
+// The options of so many slots from slot 0 on; the others say nothing. There is no heap, so the array has room for
+// the longest plan.
 #[derive(Clone, Copy)]
 pub struct Plan {
     options: [u8; 48],
