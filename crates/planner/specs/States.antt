@@ -5,7 +5,7 @@ use Rattle.subject.specs.declared.refusal.Refusal.TheVariants.{NoSlot, NoOption,
 use Rattle.subject.specs.Problem.{Problem}
 use Rattle.subject.specs.Boxes.{opened}
 use Rattle.subject.specs.Decisions.{Decision, tried, struck, Largest}
-use Rattle.subject.specs.Logs.{Log, calls, Standing, walking}
+use Rattle.subject.specs.Logs.{Log, Entry, calls, Standing, walking}
 use Rattle.subject.specs.Law.{Lawful}
 use Rattle.boxes.specs.declared.OptionBox.{OptionBox}
 use Rattle.boxes.specs.Boxes.{Open, opens}
@@ -67,3 +67,8 @@ pub record After {B : Type 0} {bound : Ghosts B} (meaning : B → Binding) (P : 
   pub decisions : List Decision
   pub standing : Standing P (calls L) decisions
   pub stands : Stands meaning P decisions p
+
+-- A call carries on what ties a planner to its log, whatever the problem and the log: where the planner is as a log says, it
+-- is afterwards as that log says with the call's entry.
+abbrev pub Carries : {B : Type 0} {bound : Ghosts B} → (B → Binding) → Entry → Planner B bound → Planner B bound → Type 0
+Carries meaning entry before after = (P : Problem) (L : Log) → After meaning P L before → After meaning P (entry ∷ L) after

@@ -1,9 +1,7 @@
 // The planner's calls: try, strike, back and look.
-ghost use Rattle.std.specs.Prelude.{◌≡◌, ℕ, ◌∷◌, MatchResult};
-ghost use Rattle.subject.specs.Problem.{Problem};
-ghost use Rattle.subject.specs.Logs.{Log};
+ghost use Rattle.std.specs.Prelude.{◌≡◌, MatchResult};
 ghost use Rattle.planner.specs.Answers.{tries, strikes, backs, looks};
-ghost use Rattle.planner.specs.States.{After, Found, Shut, Counted};
+ghost use Rattle.planner.specs.States.{Carries, Found, Shut, Counted};
 
 use crate::marks::{restore, save};
 use crate::state::Planner;
@@ -34,7 +32,7 @@ impl<B: Binder> Planner<B> {
     // Tries an option: closes every other option of its slot, and all that then has no support. Answers how many
     // options are open. At most sixteen tries stand at a time.
     pub fn try_option(&mut self, slot: usize, option: usize) -> Result<u32, Refusal>
-        ensures law { (P : Problem) (L : Log) → After B.Binder.meaning P L self.old → After B.Binder.meaning P (tries slot option result ∷ L) self.new }
+        ensures law { Carries B.Binder.meaning (tries slot option result) self.old self.new }
         ensures counted { Counted result self.old self.new }
     {
         let option = self.open_option(slot, option)?;
@@ -53,7 +51,7 @@ impl<B: Binder> Planner<B> {
 
     // Strikes an option: closes it, and all that then has no support. Answers how many options are open.
     pub fn strike(&mut self, slot: usize, option: usize) -> Result<u32, Refusal>
-        ensures law { (P : Problem) (L : Log) → After B.Binder.meaning P L self.old → After B.Binder.meaning P (strikes slot option result ∷ L) self.new }
+        ensures law { Carries B.Binder.meaning (strikes slot option result) self.old self.new }
         ensures counted { Counted result self.old self.new }
     {
         let option = self.open_option(slot, option)?;
@@ -64,7 +62,7 @@ impl<B: Binder> Planner<B> {
 
     // Takes back the newest try and every strike behind it. Answers how many options are open.
     pub fn back(&mut self) -> Result<u32, Refusal>
-        ensures law { (P : Problem) (L : Log) → After B.Binder.meaning P L self.old → After B.Binder.meaning P (backs result ∷ L) self.new }
+        ensures law { Carries B.Binder.meaning (backs result) self.old self.new }
         ensures counted { Counted result self.old self.new }
     {
         if self.depth == 0 {
@@ -80,7 +78,7 @@ impl<B: Binder> Planner<B> {
 
     // The open options of a slot: bit o is one exactly where option o is open.
     pub fn look(&self, slot: usize) -> Result<u32, Refusal>
-        ensures { (P : Problem) (L : Log) → After B.Binder.meaning P L self.now → After B.Binder.meaning P (looks slot result ∷ L) self.now }
+        ensures { Carries B.Binder.meaning (looks slot result) self.now self.now }
     {
         if slot >= self.slots.count {
             return Err(Refusal::NoSlot);
