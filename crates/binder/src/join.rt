@@ -82,6 +82,8 @@ impl<A: Binder, B: Binder> Binder for Join<A, B> {
         self.first.marks()
     }
 
+    // The three calls below ask the first or the second. One function for them would be no plainer: a closure that asks
+    // either would have to take two types.
     fn arity(&self, sheet: usize) -> Result<usize, Refusal> {
         if sheet < self.first.sheets() {
             return self.first.arity(sheet);

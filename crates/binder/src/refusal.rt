@@ -5,9 +5,9 @@ ghost use Rattle.binder.specs.Refusals.{number_of};
 // There is no such sheet or position; there are 72 marks already; there is no mark to undo.
 #[derive(Clone, Copy, PartialEq, Debug)]
 pub enum Refusal {
-    NotThere,
-    TooManyMarks,
-    NoMark,
+    NotThere = 31,
+    TooManyMarks = 32,
+    NoMark = 33,
 }
 
 impl Refusal {
@@ -15,10 +15,6 @@ impl Refusal {
     pub fn number(self) -> u8
         ensures { result ≡ number_of self }
     {
-        match self {
-            Refusal::NotThere => 31,
-            Refusal::TooManyMarks => 32,
-            Refusal::NoMark => 33,
-        }
+        self as u8
     }
 }

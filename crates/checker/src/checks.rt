@@ -8,45 +8,30 @@ use catalogue::fault::{Fault, Layer};
 #[derive(Clone, Copy, PartialEq, Eq, Debug)]
 pub(crate) enum Check {
     // There is a record, of a kind, and its body is whole.
-    RecordLeft,
-    KindKnown,
-    BodyWhole,
+    RecordLeft = 1,
+    KindKnown = 2,
+    BodyWhole = 3,
     // It may stand where it does, and is not one too many.
-    InPlace,
-    WithinLimit,
+    InPlace = 4,
+    WithinLimit = 5,
     // Its parts are well formed, and no record of the sheet is there twice.
-    Options,
-    ScopeLength,
-    Scope,
-    Row,
-    RowOnce,
-    Weight,
-    WeightOnce,
+    Options = 6,
+    ScopeLength = 7,
+    Scope = 8,
+    Row = 9,
+    RowOnce = 10,
+    Weight = 11,
+    WeightOnce = 12,
     // The end comes behind some slot, and nothing is behind the end.
-    SomeSlot,
-    NothingBehind,
+    SomeSlot = 13,
+    NothingBehind = 14,
 }
 
 impl Check {
     fn number(self) -> u8
         ensures { result ≡ number_of self }
     {
-        match self {
-            Check::RecordLeft => 1,
-            Check::KindKnown => 2,
-            Check::BodyWhole => 3,
-            Check::InPlace => 4,
-            Check::WithinLimit => 5,
-            Check::Options => 6,
-            Check::ScopeLength => 7,
-            Check::Scope => 8,
-            Check::Row => 9,
-            Check::RowOnce => 10,
-            Check::Weight => 11,
-            Check::WeightOnce => 12,
-            Check::SomeSlot => 13,
-            Check::NothingBehind => 14,
-        }
+        self as u8
     }
 
     // The layer that it belongs to.

@@ -27,6 +27,9 @@ pub(crate) fn entry<'a>(bytes: &'a [u8], at: usize) -> Result<Entry<'a>, Fault>
     Ok(Entry::from(record))
 }
 
+// Below, `at` is only where a fault says that the record stands. A body and its place in one struct would be no
+// plainer: each call would make it first.
+
 // Check 6: how many options a slot has.
 pub(crate) fn options_of(body: &[u8], at: usize) -> Result<u8, Fault>
     requires { length body.now ≡ 1 }

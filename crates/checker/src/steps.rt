@@ -14,6 +14,7 @@ use catalogue::fault::Fault;
 use catalogue::kind::Kind;
 use catalogue::make::Make;
 
+// As many slots as a box covers. The crate `boxes` has the number of its own, since files know nothing of boxes.
 const SLOTS: u8 = 48;
 
 const SHEETS: u8 = 64;

@@ -1,7 +1,8 @@
 // What a turn of an exploration comes to.
 
 // No box was left to explore. Or the next box had no plan in it, and was dropped; or it was split in two; or
-// it had one plan in it, and was dropped. Entry s of that plan is the option of slot s.
+// it had one plan in it, and was dropped. Entry s of that plan is the option of slot s; it is an array, since the
+// library takes no memory from a heap.
 #[derive(Clone, Copy)]
 pub enum Outcome {
     Empty,

@@ -21,30 +21,20 @@ fn show_options(rt: &HostRuntime, held: &Catalogue, slot: usize) -> io::Result<(
     }
 }
 
-fn word(make: Make) -> &'static str {
-    match make {
-        Make::Fit => "fit",
-        Make::Bar => "bar",
-        Make::Load => "load",
-    }
-}
-
 fn show_count(rt: &HostRuntime, held: &Catalogue, make: Make) -> io::Result<()> {
-    let word = word(make);
     let count = held.sheet_count(make);
-    println!(rt; "{word} sheets: {count}")
+    println!(rt; "{make} sheets: {count}")
 }
 
 fn show_sheet(rt: &HostRuntime, held: &Catalogue, make: Make, i: usize) -> io::Result<()> {
-    let word = word(make);
     match held.sheet(make, i) {
         Some(view) => {
             let scope = view.scope;
             let cap = view.cap;
             let size = view.entries.len();
-            println!(rt; "{word} sheet {i}: scope {scope:?} cap {cap} entries of {size} bytes")
+            println!(rt; "{make} sheet {i}: scope {scope:?} cap {cap} entries of {size} bytes")
         }
-        None => println!(rt; "{word} sheet {i}: no such sheet"),
+        None => println!(rt; "{make} sheet {i}: no such sheet"),
     }
 }
 

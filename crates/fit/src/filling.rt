@@ -28,6 +28,7 @@ fn row_counts(sheets: &Sheets) -> [u16; 64]
     ensures { Each (row_count sheets.now.views) result sheets.now.count }
 {
     let mut counts = [0; 64];
+    // A range is plainer here: a sheet is asked for its rows by its number.
     for sheet in 0..sheets.count {
         counts[sheet] = row_count(sheets, sheet) as u16;
     }
@@ -41,6 +42,7 @@ fn run_starts(sheets: &Sheets) -> [u16; 64]
 {
     let mut starts = [0; 64];
     let mut start = 0;
+    // A range is plainer here too.
     for sheet in 0..sheets.count {
         starts[sheet] = start as u16;
         start += row_count(sheets, sheet);

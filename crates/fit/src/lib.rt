@@ -21,7 +21,8 @@ mod support;
 //
 // A row that does not fit is swapped with the last kept one, and the count falls by one. So a row that
 // leaves a front stays in every longer front: a mark saves only the counts, and an undo puts them back. One
-// table of starts and counts together would be no plainer, since a mark would then copy the starts too.
+// table of starts and counts together would be no plainer, since a mark would then copy the starts too. All
+// are tables of as much as there can be, since the library takes no memory from a heap.
 #[derive(Drop)]
 pub struct Fit<'a> {
     sheets: Sheets<'a>,

@@ -10,6 +10,9 @@ use std::io;
 use std::io::{ErrorKind, Read};
 use std::rt::Files;
 
+// How much the programs read at most, of a file and of an input. An accepted catalogue is shorter.
+pub const LIMIT: usize = 65536;
+
 // The first bytes of an input: all, or as many as `limit` says where there are more.
 pub fn first_bytes<R: Read + Drop, A: Allocator>(
     alloc: A,

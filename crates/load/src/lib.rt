@@ -18,7 +18,8 @@ mod weights;
 //
 //   weights:  [ sheet 0 | .. | sheet 7 ]    a sheet:  [ position 0: options 0 to 31 | .. | position 7 ]
 //
-// What a sheet keeps never changes, so a mark is only counted.
+// What a sheet keeps never changes, so a mark is only counted. The weights are a table of all that there can be,
+// since the library takes no memory from a heap.
 #[derive(Drop)]
 pub struct Load<'a> {
     sheets: Sheets<'a>,

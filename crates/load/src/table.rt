@@ -2,13 +2,13 @@
 ghost use Rattle.std.specs.Prelude.{◌≡◌, ◌<◌};
 ghost use Rattle.load.specs.Weights.{weight_of, Small};
 
-// What each of 32 options weighs at one position.
+// What each of 32 options weighs at one position. It is an array, since the library takes no memory from a heap.
 #[derive(Clone, Copy)]
 pub(crate) struct Weights {
     pub(crate) amounts: [i16; 32],
 }
 
-// The same at each of 8 positions.
+// The same at each of 8 positions, likewise.
 #[derive(Clone, Copy)]
 pub(crate) struct Table {
     pub(crate) weights: [Weights; 8],

@@ -3,10 +3,7 @@
 
 use catalogue::checked::Catalogue;
 use checker::check;
-use input::first_bytes_of_file;
-
-// How much is read at most. An accepted catalogue is shorter.
-const LIMIT: usize = 65536;
+use input::{LIMIT, first_bytes_of_file};
 
 fn run(rt: &HostRuntime) -> anyhow::Result<()> {
     let file = first_bytes_of_file(rt, "catalogue", LIMIT)?;

@@ -9,7 +9,7 @@ use catalogue::checked::Catalogue;
 use checker::check;
 use commands::lines::{Lines, whole_lines};
 use commands::parse::parse;
-use input::first_bytes_of_file;
+use input::{LIMIT, first_bytes_of_file};
 use planner::state::Planner;
 use session::state::Session;
 use std::io;
@@ -17,9 +17,6 @@ use std::io::Read;
 use subject::answer::Reply;
 use subject::call::Call;
 use subject::denial::Denial;
-
-// How much is read at most, of the file and of standard input. An accepted catalogue is shorter.
-const LIMIT: usize = 65536;
 
 // The calls that the lines of some input make.
 fn calls_in(rt: &HostRuntime, input: &[u8]) -> anyhow::Result<Vec<Option<Call>>> {

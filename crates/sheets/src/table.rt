@@ -23,7 +23,7 @@ pub(crate) fn no_view<'a>() -> View<'a>
 }
 
 // The first `count` views are the sheets, in the file's order. They are sound: some sound catalogue has
-// them.
+// them. They stand in a table of all that there can be, since the library takes no memory from a heap.
 #[derive(Clone, Copy)]
 pub struct Sheets<'a> {
     pub make: Make,

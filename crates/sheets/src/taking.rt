@@ -16,6 +16,7 @@ pub fn sheets_of<'a>(catalogue: &Catalogue<'a>, make: Make) -> Sheets<'a>
 {
     let count = catalogue.sheet_count(make);
     let mut views = [no_view(); 64];
+    // A range is plainer here: i is the sheet's number, by which the catalogue is asked for it.
     'sheets: for i in 0..count {
         if let Some(view) = catalogue.sheet(make, i) {
             views[i] = view;

@@ -10,7 +10,8 @@ const OPTIONS: u8 = 4;
 // How many lists there are: one option of four for each of three positions.
 const LISTS: u8 = 64;
 
-// How many bytes a row and a weight have, each with its byte of kind.
+// How many bytes a row and a weight have, each with its byte of kind. Said here once more, since the enumeration takes
+// nothing from the code that it is compared with.
 const ROW: usize = 9;
 
 const WEIGHT: usize = 5;

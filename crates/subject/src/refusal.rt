@@ -6,12 +6,12 @@ ghost use Rattle.subject.specs.Refusals.{number_of};
 // no try stands; the plan memory is shorter than the number of slots.
 #[derive(Clone, Copy, PartialEq, Debug)]
 pub enum Refusal {
-    NoSlot,
-    NoOption,
-    NotOpen,
-    TooManyTries,
-    NoTry,
-    ShortMemory,
+    NoSlot = 21,
+    NoOption = 22,
+    NotOpen = 23,
+    TooManyTries = 24,
+    NoTry = 25,
+    ShortMemory = 26,
 }
 
 impl Refusal {
@@ -19,13 +19,6 @@ impl Refusal {
     pub fn number(self) -> u8
         ensures { result ≡ number_of self }
     {
-        match self {
-            Refusal::NoSlot => 21,
-            Refusal::NoOption => 22,
-            Refusal::NotOpen => 23,
-            Refusal::TooManyTries => 24,
-            Refusal::NoTry => 25,
-            Refusal::ShortMemory => 26,
-        }
+        self as u8
     }
 }
