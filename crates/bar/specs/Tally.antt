@@ -15,7 +15,7 @@ pub record Bears (b scope entries : List ℕ) (p o r : ℕ) : Type 0 where
   pub fits : Fits b scope (row_at entries (length scope) r)
   pub has : slice_index (row_at entries (length scope) r) p ≡ o
 
--- a table of counts, after a row is counted once at each of its first n positions, under the option that it has there
+-- ys is the table xs with a row counted once at each of its first n positions, under the option that it has there
 pub record Tallied (options : List ℕ) (n : ℕ) (xs ys : List (List ℕ)) : Type 0 where
   pub hit : (p : ℕ) → p < n → slice_index (slice_index_or ys p []) (slice_index options p) ≡ slice_index (slice_index_or xs p []) (slice_index options p) + 1
   pub miss : (p o : ℕ) → (p < n → slice_index options p ≢ o) → slice_index (slice_index_or ys p []) o ≡ slice_index (slice_index_or xs p []) o
