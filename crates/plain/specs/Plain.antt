@@ -33,5 +33,5 @@ problem_in bytes = record {
 -- what a binder of the three makes means
 abbrev pub meaning_of : joined.Join (joined.Join fits.Fit bars.Bar) loads.Load → Binding
 meaning_of j =
-    paired j.both (paired j.first.both (fitting.meaning_of j.first.first) (barring.barring j.first.second.sheets.views j.first.second.sheets.count j.first.second.marks))
+    paired j.both (paired j.first.both (fitting.meaning_of j.first.first) (barring.barring j.first.second.sheets.views j.first.second.sheets.count j.first.second.marks.count))
     (loading.meaning_of j.second)
