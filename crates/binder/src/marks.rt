@@ -1,4 +1,4 @@
-// The marks of a binder that only counts them.
+// How many marks stand on a binder.
 ghost use Rattle.std.specs.Prelude.{◌≡◌, ◌+◌, ◌<◌, ◌≤◌, MatchResult};
 ghost use Rattle.binder.specs.declared.refusal.Refusal.TheVariants.{TooManyMarks, NoMark};
 
@@ -7,7 +7,7 @@ use crate::refusal::Refusal;
 // The most marks that may stand.
 pub const MARKS: usize = 72;
 
-// How many marks stand.
+// At most 72.
 #[derive(Clone, Copy)]
 pub struct Marks {
     pub count: usize,

@@ -15,6 +15,7 @@ use sheets::table::Sheets;
 use sheets::taking::sheets_of;
 
 // How many rows a sheet has.
+#[tactic(auto, unfolding(crate::specs::Laid::row_count))]
 fn row_count(sheets: &Sheets, sheet: usize) -> usize
     ensures { result ≡ row_count sheets.now.views sheet }
 {

@@ -9,6 +9,7 @@ use catalogue::checked::Catalogue;
 use catalogue::make::Make;
 
 // All sheets of a make, in the file's order.
+#[tactic(auto, using(crate::proofs::Chosen::count_few))]
 pub fn sheets_of<'a>(catalogue: &Catalogue<'a>, make: Make) -> Sheets<'a>
     ensures is { shown_in result.views result.count ≡ map showing (sheets_in (content catalogue.now.bytes.now) make) }
     ensures make { result.make ≡ make }

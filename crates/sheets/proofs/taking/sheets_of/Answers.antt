@@ -5,18 +5,6 @@ use Rattle.sheets.proofs.Chosen.{count_few, count_said_lem, taken_of, filled_mor
 use Rattle.sheets.proofs.taking.sheets_of.Goals as goal
 use Rattle.sheets.proofs.taking.sheets_of.Goals.{in-Some, in_default}
 
-pub offset_bounds-views-i : goal.offset_bounds-views-i
-offset_bounds-views-i c =
-    let k = c.args.catalogue.now in
-    let few = count_few k.bytes.now k.counts k.accepted k.octets c.args.make in
-    record { fits = omega arith }
-
-pub bounds-views-i : goal.bounds-views-i
-bounds-views-i c =
-    let k = c.args.catalogue.now in
-    let few = count_few k.bytes.now k.counts k.accepted k.octets c.args.make in
-    omega arith
-
 pub sheets-preserved : goal.sheets-preserved
 sheets-preserved c =
     let k = c.args.catalogue.now in
