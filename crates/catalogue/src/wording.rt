@@ -7,6 +7,7 @@ use crate::fault::{Fault, Layer};
 use crate::make::Make;
 use std::fmt;
 
+// Each type has its own words, so each has an impl of its own where two look alike: one for both would be no plainer.
 impl fmt::Display for Layer {
     ghost output = { λ l. Some (layer_word l) };
 

@@ -26,6 +26,7 @@ impl Tally {
     }
 }
 
+// Three numbers in words of their own; what prints the counts of a catalogue has other words.
 impl fmt::Display for Tally {
     fn fmt<W: fmt::Write>(&self, f: &mut fmt::Formatter<W>) -> fmt::Result {
         let sheets = self.sheets;

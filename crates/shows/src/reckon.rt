@@ -1,6 +1,7 @@
 // Plain enumeration over a sheet's definition: which options of its scope some admitted list that fits a
 // box holds. It knows nothing of how binders work.
 use boxes::OptionBox;
+use catalogue::kind::Kind;
 use catalogue::make::Make;
 use catalogue::view::View;
 
@@ -9,12 +10,6 @@ const OPTIONS: u8 = 4;
 
 // How many lists there are: one option of four for each of three positions.
 const LISTS: u8 = 64;
-
-// How many bytes a row and a weight have, each with its byte of kind. Said here once more, since the enumeration takes
-// nothing from the code that it is compared with.
-const ROW: usize = 9;
-
-const WEIGHT: usize = 5;
 
 // An option for each position of a scope; a shorter scope takes the first ones.
 type List = [u8; 3];
@@ -34,7 +29,7 @@ pub struct Sheet<'a> {
 impl<'a> Sheet<'a> {
     fn has_row(&self, list: &List) -> bool {
         let arity = self.view.scope.len();
-        self.view.entries.chunks(ROW).any(|row| {
+        self.view.entries.chunks(Kind::Row.len()).any(|row| {
             row.iter()
                 .skip(1)
                 .zip(list)
@@ -45,7 +40,7 @@ impl<'a> Sheet<'a> {
 
     // What an option weighs at a position; 0 where no weight is given.
     fn weight_of(&self, position: usize, option: u8) -> i16 {
-        for weight in self.view.entries.chunks(WEIGHT) {
+        for weight in self.view.entries.chunks(Kind::Weight.len()) {
             if let [_, here, of, low, high] = weight {
                 if usize::from(*here) == position && *of == option {
                     return i16::from_le_bytes([*low, *high]);

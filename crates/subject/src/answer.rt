@@ -4,6 +4,7 @@ use crate::plan::Plan;
 
 // Try, strike and back answer how many options are open in all slots; look a number whose bit o is one exactly
 // where option o of the slot is open; next a plan, or that there is none left; begin and end that they are done.
+// That there is none is a case and no Option in Plan, which would be no plainer: logs have a case for each of the two.
 #[derive(Clone, Copy)]
 pub enum Answer {
     Count(u32),
