@@ -84,6 +84,7 @@ impl Draft {
     }
 
     // A header of a kind, without a cap: so many slots, and which.
+    // The kind comes as its byte, which is plainer here: the clause says the bytes.
     fn header(self, kind: u8, scope: &[u8]) -> Result<Draft, AllocError>
         ensures bytes { IfOk result (λ d. d.bytes.items ≡ self.bytes.items ++ kind ∷ length scope.now % 256 ∷ padded scope.now) }
         ensures long { IfOk result (λ d. (length scope.now ≤ 8 → vec_len d.bytes ≡ vec_len self.bytes + 10)) }
