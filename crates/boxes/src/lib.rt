@@ -149,8 +149,8 @@ impl OptionBox {
         self.cell(slot) != 0
     }
 
-    // Whether the same options are open in another box. `==` would say no more than that, and this tells, where they are
-    // not, of an option that is open in just one of the two.
+    // Whether the same options are open in another box. A derived `==` would tell less: this contract also names an option
+    // that is open in just one of the two.
     pub fn same_as(&self, other: &OptionBox) -> bool
         ensures { SameBox self.now.cells other.now.cells result }
     {

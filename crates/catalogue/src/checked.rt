@@ -13,7 +13,7 @@ pub struct Catalogue<'a> {
     ghost octets: { (i : ℕ) → slice_index bytes.now i < 256 },
 }
 
-// One slot of one option, a fit sheet on it with no row, and the end.
+// One slot of one option, a fit sheet on it with no row, and the end: the bytes of a file, as it stands on disk.
 static BUILT_IN: [u8; 13] = [1, 1, 2, 1, 0, 255, 255, 255, 255, 255, 255, 255, 7];
 
 impl<'a> Catalogue<'a> {

@@ -9,7 +9,8 @@ pub enum Layer {
 }
 
 // The number of the check that failed, its layer, and the place: the first byte of the record that
-// failed it, or for 14 the first byte behind the end record.
+// failed it, or for check 14 the first byte behind the end record. The number is a plain one, as whoever mends the
+// file reads it; the crate `checker` has the names of the checks.
 #[derive(Clone, Copy, PartialEq, Debug)]
 pub struct Fault {
     pub number: u8,

@@ -89,7 +89,8 @@ impl Kind {
     }
 }
 
-// How many bytes of body follow a first byte; 0 where it is the first of no record.
+// How many bytes of body follow a first byte. It is kept for callers that hold a byte and no kind; it says 0, and not
+// `None`, where no record begins with the byte.
 pub fn body_len(code: u8) -> usize
     ensures { result ≡ body_len code }
 {

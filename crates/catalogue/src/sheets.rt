@@ -49,7 +49,7 @@ fn scope_of(body: &[u8]) -> &[u8]
     &body[1..1 + size]
 }
 
-// The cap that a header's body says: only a load sheet's header has one.
+// The cap that a header's body says. It is 0 where the make has no cap, as the definition says.
 fn cap_of(make: Make, body: &[u8]) -> i32
     requires { header_size make ≤ length body.now + 1 }
     ensures { result ≡ cap_of make body.now }
@@ -60,7 +60,8 @@ fn cap_of(make: Make, body: &[u8]) -> i32
     }
 }
 
-// What is left to go through: the sheets from a place on, up to the end record.
+// What is left to go through: the sheets from a place on, up to the end record. It keeps a place and not the rest of
+// the bytes, since the definitions speak of places in the file.
 #[derive(Drop)]
 pub(crate) struct Sheets<'a> {
     pub(crate) bytes: &'a [u8],

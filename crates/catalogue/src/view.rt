@@ -1,7 +1,7 @@
 // What a checked catalogue shows of one sheet: parts of its bytes.
 
-// The slots that the sheet names, in their order; of a load sheet the cap, else 0; and the records
-// between its header and the next header or the end: rows or weights, each with its byte of kind.
+// The slots that the sheet names, in their order; its cap, or 0 where its make has none, as the definition says;
+// and the records between its header and the next header or the end: rows or weights, each with its byte of kind.
 #[derive(Clone, Copy)]
 pub struct View<'a> {
     pub scope: &'a [u8],

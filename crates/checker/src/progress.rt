@@ -8,8 +8,8 @@ use catalogue::make::Make;
 //                                   scope ^^^ of the newest sheet
 #[derive(Clone, Copy)]
 pub struct Progress<'a> {
-    // How many options each slot has; only the first `slots` count. The table is of fixed size, since the
-    // library keeps no heap.
+    // How many options each slot has; only the first `slots` count. The table is of fixed size, since the library is of
+    // fixed memory: it takes none from a heap, and an `ArrayVec` is not `Copy`.
     pub(crate) options: [u8; 48],
     pub(crate) slots: u8,
     pub(crate) sheets: u8,

@@ -27,8 +27,8 @@ pub(crate) fn entry<'a>(bytes: &'a [u8], at: usize) -> Result<Entry<'a>, Fault>
     Ok(Entry::from(record))
 }
 
-// Below, `at` is only where a fault says that the record stands. A body and its place in one struct would be no
-// plainer: each call would make it first.
+// Below, `at` is only where a fault says that the record stands. It goes down with the body, since by a rule of the
+// project each layer answers whole faults, which go up by `?`.
 
 // Check 6: how many options a slot has.
 pub(crate) fn options_of(body: &[u8], at: usize) -> Result<u8, Fault>

@@ -49,7 +49,8 @@ impl<'a> Progress<'a> {
         }
     }
 
-    // One slot more.
+    // One slot more. Here and below a place goes down with the body or the bytes, since by a rule of the project each
+    // layer answers whole faults, which go up by `?`.
     pub(crate) fn add_slot(&mut self, body: &[u8], at: usize) -> Result<(), Fault>
         requires { length body.now ≡ 1 }
         ensures { (bs : List ℕ) → Steps bs at (slot body.now) result self.old self.new }

@@ -1,4 +1,5 @@
-// How the files of several cases begin.
+// How the files of several cases begin. Some are there twice, with a fit sheet and with a load sheet: one function for
+// both would be told a cap that a fit sheet has not, so it would be no plainer.
 use samples::draft::Draft;
 use std::alloc::{AllocError, Global};
 

@@ -6,6 +6,7 @@ use std::io;
 
 fn judge(rt: &HostRuntime, name: &str, file: &[u8]) -> io::Result<()> {
     let mut held = Catalogue::built_in();
+    // Both sides print by their own `Display`: a type over the two would be no plainer.
     match check(file, &mut held) {
         Ok(counts) => println!(rt; "{name}: {counts}"),
         Err(fault) => println!(rt; "{name}: {fault}"),

@@ -6,6 +6,7 @@ use checker::check;
 use std::io;
 
 fn show_check<'a>(rt: &HostRuntime, file: &'a [u8], held: &mut Catalogue<'a>) -> io::Result<()> {
+    // Both sides print by their own `Display`: a type over the two would be no plainer.
     match check(file, held) {
         Ok(counts) => println!(rt; "checked: {counts}")?,
         Err(fault) => println!(rt; "checked: {fault}")?,

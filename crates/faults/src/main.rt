@@ -1,5 +1,6 @@
 // Checks small files, each at the edge of one rule, and prints what the check answers: first the rules
-// one by one, then records that break several, then what a catalogue holds after a check.
+// one by one, then records that break several, then what a catalogue holds after a check. The numbers of checks are
+// those of docs/FORMAT.md. Raw records are malformed on purpose, so they are written byte by byte.
 #![tactic(auto)]
 
 mod bases;

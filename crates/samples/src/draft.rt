@@ -6,7 +6,8 @@ ghost use Rattle.catalogue.specs.Writing.{padded, two_bytes, four_bytes, slot_by
 use catalogue::kind::Kind;
 use std::alloc::{AllocError, Global};
 
-// What stands in the bytes that are not used.
+// What stands in the bytes that are not used. The checker has its own: files for tests take nothing from the code that
+// they test.
 static UNUSED: [u8; 8] = [0xFF; 8];
 
 // What stands behind so many used bytes, up to eight bytes in all.

@@ -35,26 +35,17 @@ fn together(rt: &HostRuntime, catalogue: &Catalogue) -> io::Result<()> {
     let mut all = Join::new(tables, Load::new(catalogue));
     let bars = catalogue.sheet_count(Make::Fit);
     let loads = bars.wrapping_add(catalogue.sheet_count(Make::Bar));
-    tell(
-        rt,
-        "fit, joined",
-        every_box(&mut all, 0, catalogue, Make::Fit),
-    )?;
-    tell(
-        rt,
-        "bar, joined",
-        every_box(&mut all, bars, catalogue, Make::Bar),
-    )?;
-    tell(
-        rt,
-        "load, joined",
-        every_box(&mut all, loads, catalogue, Make::Load),
-    )
+    for (make, from) in [(Make::Fit, 0), (Make::Bar, bars), (Make::Load, loads)] {
+        let tally = every_box(&mut all, from, catalogue, make);
+        println!(rt; "{make}, joined: {tally}")?;
+    }
+    Ok(())
 }
 
 fn run(rt: &HostRuntime) -> anyhow::Result<()> {
     let draft = files::file(rt.alloc())?;
     let mut catalogue = Catalogue::built_in();
+    // Both sides print by their own `Display`: a type over the two would be no plainer.
     match check(draft.as_slice(), &mut catalogue) {
         Ok(counts) => println!(rt; "{counts}")?,
         Err(fault) => println!(rt; "{fault}")?,

@@ -40,14 +40,14 @@ impl<'a> Sheet<'a> {
 
     // What an option weighs at a position; 0 where no weight is given.
     fn weight_of(&self, position: usize, option: u8) -> i16 {
-        for weight in self.view.entries.chunks(Kind::Weight.len()) {
-            if let [_, here, of, low, high] = weight {
-                if usize::from(*here) == position && *of == option {
-                    return i16::from_le_bytes([*low, *high]);
-                }
+        let mut weights = self.view.entries.chunks(Kind::Weight.len());
+        let weight = weights.find_map(|weight| match weight {
+            [_, here, of, low, high] if usize::from(*here) == position && *of == option => {
+                Some(i16::from_le_bytes([*low, *high]))
             }
-        }
-        0
+            _ => None,
+        });
+        weight.unwrap_or(0)
     }
 
     fn total(&self, list: &List) -> i32 {

@@ -1,8 +1,8 @@
 // A plan, as it is answered.
 ghost use Rattle.std.specs.Prelude.{◌≡◌, ◌≤◌, length, take};
 
-// The options of so many slots from slot 0 on; the others say nothing. There is no heap, so the array has room for
-// the longest plan.
+// The options of so many slots from slot 0 on; the others say nothing. The array has room for the longest plan, since
+// the library is of fixed memory: it takes none from a heap, and an `ArrayVec` is not `Copy`.
 #[derive(Clone, Copy)]
 pub struct Plan {
     options: [u8; 48],
