@@ -13,14 +13,13 @@ const SPACE: u8 = b' ';
 fn three_digits(a: u8, b: u8, c: u8) -> Option<usize>
     ensures { result ≡ three_digits a b c }
 {
-    if a.is_ascii_digit() && b.is_ascii_digit() && c.is_ascii_digit() {
-        let hundreds = (a - b'0') as usize;
-        let tens = (b - b'0') as usize;
-        let ones = (c - b'0') as usize;
-        Some(100 * hundreds + (10 * tens + ones))
-    } else {
-        None
-    }
+    let all_digits = a.is_ascii_digit() && b.is_ascii_digit() && c.is_ascii_digit();
+    all_digits.then(|| {
+        let hundreds = usize::from(a - b'0');
+        let tens = usize::from(b - b'0');
+        let ones = usize::from(c - b'0');
+        100 * hundreds + (10 * tens + ones)
+    })
 }
 
 // The number that one to three digits write. Where there are fewer, noughts stand before them.
@@ -62,13 +61,14 @@ fn two_numbers(fields: &[u8]) -> Option<(usize, usize)>
 fn alone(call: Call, fields: &[u8]) -> Option<Call>
     ensures { result ≡ alone_in call fields.now }
 {
-    if fields.is_empty() { Some(call) } else { None }
+    fields.is_empty().then_some(call)
 }
 
 // The call that a letter names, with the numbers behind it.
 fn call_by(letter: u8, fields: &[u8]) -> Option<Call>
     ensures { result ≡ call_by letter fields.now }
 {
+    // The letter is matched against character literals: a rule of the project names this form.
     match letter as char {
         't' => {
             let (slot, option) = two_numbers(fields)?;

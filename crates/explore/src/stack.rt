@@ -13,7 +13,8 @@ use boxes::OptionBox;
 //
 // Every plan of an upper box comes before every plan of a lower one. In box i each slot below i has at most
 // one open option. So what is split in box i is slot i or a later one, and box 48 is never split.
-// A table with a number beside it: memory is fixed, with no heap.
+// A table with the number in use beside it is fixed memory, since the library takes none from a heap. An `ArrayVec` is
+// the same with more to prove.
 #[derive(Drop)]
 pub struct Stack {
     pub(crate) boxes: [OptionBox; 49],

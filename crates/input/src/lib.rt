@@ -10,6 +10,9 @@ use std::io;
 use std::io::{ErrorKind, Read};
 use std::rt::Files;
 
+#[cfg(test)]
+mod tests;
+
 // How much the programs read at most, of a file and of an input. An accepted catalogue is shorter.
 pub const LIMIT: usize = 65536;
 
@@ -29,7 +32,8 @@ pub fn first_bytes<R: Read + Drop, A: Allocator>(
     Ok(bytes)
 }
 
-// The same of a file. One that is missing counts as empty; every other error is passed on.
+// The same of a file. One that is missing counts as empty, and so does one whose reading says that it is not found. A
+// read that is interrupted is tried again, and every other error is passed on.
 pub fn first_bytes_of_file<R: Files + Alloc>(
     rt: &R,
     path: &str,

@@ -23,7 +23,8 @@ fn calls_in(rt: &HostRuntime, input: &[u8]) -> anyhow::Result<Vec<Option<Call>>>
     Ok(Lines::new(input).map(parse).collect(rt.alloc())?)
 }
 
-// Prints each reply on a line.
+// Prints each reply on a line. An answer and a denial print by their own `Display`: a type over the two would be no
+// plainer.
 fn print(rt: &HostRuntime, replies: &[Reply]) -> anyhow::Result<()> {
     for reply in replies {
         match reply {

@@ -12,6 +12,8 @@ use subject::refusal::Refusal;
 // How many tries may stand.
 const TRIES: usize = 16;
 
+// A slot and an option come as two numbers here, since that is what a caller gives: a struct of them would have to be
+// made for each call.
 impl<B: Binder> Planner<B> {
     // The option, if there is one and it is open; else the first reason why it cannot be had.
     fn open_option(&self, slot: usize, option: usize) -> Result<u8, Refusal>

@@ -21,6 +21,9 @@ fn slots_of(catalogue: &Catalogue) -> Slots
     }
 }
 
+// A binder and the slots go side by side through the functions here, since a planner is what holds both: a struct of
+// them would be made for the opening alone, and taken apart again.
+
 // Whether a sheet names slots below `slots` alone.
 fn sheet_below<B: Binder>(binder: &B, sheet: usize, slots: usize) -> bool
     ensures { Decides result (Below (B.Binder.meaning binder.now) sheet slots (length ((B.Binder.meaning binder.now).scope sheet))) }

@@ -7,7 +7,7 @@ use boxes::OptionBox;
 use explore::stack::Stack;
 
 // How many slots there are, and how many options each has. The sizes stand in a table that is as long as there can be
-// slots, since the library takes no memory from a heap.
+// slots. It is fixed memory: the library takes none from a heap, and an `ArrayVec` is not `Copy`.
 #[derive(Clone, Copy)]
 pub struct Slots {
     pub(crate) sizes: [u8; 48],
@@ -21,7 +21,8 @@ pub struct Slots {
 //   saved:  [ box before try 0 | box before try 1 | .. ]     slate: the box after the newest decision
 //                                      depth - 1 ^
 //
-// The saved boxes stand in a table of all that there can be, since the library takes no memory from a heap.
+// Each try copies the box into a plain table inside the planner: a rule of the project names this form. It is fixed
+// memory: the library takes none from a heap.
 #[derive(Drop)]
 pub struct Planner<B: Binder> {
     pub(crate) binder: B,

@@ -8,7 +8,8 @@ pub enum State {
     Spent,
 }
 
-// The next plan was written to the plan memory, or there is none left.
+// The next plan was written to the plan memory, or there is none left. The plan itself goes to the memory that is
+// lent, so that a step holds none.
 #[derive(Clone, Copy, PartialEq, Debug)]
 pub enum Step {
     Plan,

@@ -14,14 +14,12 @@ use explore::outcome::Outcome;
 use explore::stack::Stack;
 use subject::refusal::Refusal;
 
-// Writes the first `count` options of a plan over the front of a memory.
-fn write_plan(plan: &[u8; 48], count: usize, memory: &mut [u8])
-    requires few { count ≤ 48 }
-    requires room { count ≤ length memory.old }
-    requires long { length plan.now ≡ 48 }
-    ensures { memory.new ≡ take count plan.now ++ drop count memory.old }
+// Writes the options of a plan over the front of a memory.
+fn write_plan(options: &[u8], memory: &mut [u8])
+    requires room { length options.now ≤ length memory.old }
+    ensures { memory.new ≡ options.now ++ drop (length options.now) memory.old }
 {
-    memory[..count].copy_from_slice(&plan[..count]);
+    memory[..options.len()].copy_from_slice(options);
 }
 
 impl<B: Binder> Planner<B> {
@@ -61,6 +59,8 @@ impl<B: Binder> Walk<B> {
         }
         'turns: loop {
             let outcome = self.stack.turn(&mut self.planner.binder, count);
+            // The walk's state and the outcome are matched together, and the state is changed in place: a rule of the
+            // project names this form.
             match (self.state, outcome) {
                 (State::Spent, _) => return Ok(Step::NoPlan),
                 (_, Outcome::Empty) => {
@@ -69,7 +69,7 @@ impl<B: Binder> Walk<B> {
                 }
                 (_, Outcome::Found(plan)) => {
                     self.state = State::AtPlan;
-                    write_plan(&plan, count, memory);
+                    write_plan(&plan[..count], memory);
                     return Ok(Step::Plan);
                 }
                 (_, Outcome::Dry) => {}

@@ -1,4 +1,5 @@
-// One line of a session.
+// One line of a session. Each function here matches on whether the session holds a planner or a walk: these are
+// two types with calls of their own, and no switch on a step.
 ghost use Rattle.std.specs.Prelude.{ℕ, Decides};
 ghost use Rattle.session.specs.Running.{Crosses, Crossed, Replied};
 

@@ -33,7 +33,8 @@ impl<B: Binder> Session<B> {
         ensures kept { Kept (min (length lines.now) (length replies.old)) replies.old replies.new memory.old memory.new }
     {
         let count = lines.len().min(replies.len());
-        // A reply is written by its number: of what is written through `iter_mut` a proof knows nothing.
+        // A reply is written by its number: of what is written through `iter_mut().zip(..)` a proof knows nothing, and
+        // with `iter_mut().enumerate()` it is the line that has to be taken by its number.
         for (at, line) in lines[..count].iter().enumerate() {
             replies[at] = if self.crosses(*line) {
                 self = self.cross();

@@ -1,4 +1,4 @@
-use Rattle.std.proofs.Common.{◌≡◌, ◌++◌, length, take, drop, sym, refl, ap, ◌∙◌, subst, arith}
+use Rattle.std.proofs.Common.{◌≡◌, ◌++◌, length, length-take, take, drop, sym, refl, ap, ◌∙◌, subst, arith}
 use Rattle.explore.specs.Outcomes.{Long}
 use Rattle.planner.proofs.Going.{turning_none, short_stays, turn_dry, turn_split, turn_empty, turn_found, turn_spent, front_of}
 use Rattle.planner.proofs.state.Walk.next.Goals as goal
@@ -23,7 +23,8 @@ returns-in_default-Found g c =
     let few = c.args.self.now.planner.slots.few in
     let plan = c.in_default-Found.plan in
     let long : length plan ≡ 48 = subst Long c.in_default-Found.is-1 c.turn-outcome.ensures.long in
-    let wrote : c.write_plan.new.memory ≡ take count plan ++ drop count c.args.memory.now = c.write_plan.ensures ∙ ap (λ x. take count plan ++ drop count x) c.turns.invariant.1 in
+    let taken : length (take count plan) ≡ count = rw length-take (omega (arith, few, long)) in
+    let wrote : c.write_plan.new.memory ≡ take count plan ++ drop count c.args.memory.now = c.write_plan.ensures ∙ (λ i. take count plan ++ drop (taken i) (c.turns.invariant.1 i)) in
     let front : take count c.write_plan.new.memory ≡ take count plan = front_of count plan c.args.memory.now c.write_plan.new.memory (omega (arith, few, long)) wrote in
     record {
       law = λ P L a.
