@@ -91,7 +91,8 @@ fn has_key(bytes: &[u8], key: &[u8]) -> bool
 }
 
 // Whether an earlier record of the sheet has the same key: the records stand from `from` up to `to`,
-// `size` bytes each, and a key begins behind the byte of kind.
+// `size` bytes each, and a key begins behind the byte of kind. Places are plainer here than the slice between them: only
+// this function tests that they are in order, and no caller is asked to know it.
 pub(crate) fn stood_before(bytes: &[u8], from: usize, to: usize, size: usize, key: &[u8]) -> bool
     requires within { to ≤ length bytes.now }
     requires short { length key.now < size }
