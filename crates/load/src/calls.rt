@@ -41,6 +41,8 @@ impl<'a> Binder for Load<'a> {
 
     ghost proper = { λ x. proper_of x };
 
+    // The questions and marks hand on to what the makes share. One generic binder over a make's way to find support
+    // would be no plainer: a trait with the meaning, its law and the showing would be longer than these calls.
     fn sheets(&self) -> usize {
         self.sheets.count
     }

@@ -48,6 +48,7 @@ fn masks_of(table: &Table, leasts: &[i32], sheet: &Sheet, slate: &OptionBox) -> 
 {
     let total = total_of(leasts);
     let mut masks = [0; 8];
+    // `position` only indexes: a `zip` with `iter_mut` tells a proof nothing of what was written.
     for (position, slot) in sheet.scope.slots.iter().enumerate() {
         let rest = total - leasts[position];
         let cell = slate.cells[*slot as usize];

@@ -24,6 +24,12 @@ shown_or [] s v e = e
 shown_or (w ∷ vs) zero v e = refl
 shown_or (w ∷ vs) (suc s) v e = shown_or vs s v e
 
+-- what is shown at a place that is there
+pub shown_there : (views : List View) (s : ℕ) (v : View) → s < length views → v ≡ get_or views s v → shown_by v ≡ shown_at views s
+shown_there [] s v h e = absurd (omega arith)
+shown_there (w ∷ vs) zero v h e = ap shown_by e
+shown_there (w ∷ vs) (suc s) v h e = shown_there vs s v (omega arith) e
+
 -- as many sheets as the views that show them
 long_as : (ts : List Sheet) (views : List View) (n : ℕ) → map showing ts ≡ shown_in views n → n ≤ length views → length ts ≡ n
 long_as ts views n e h =
