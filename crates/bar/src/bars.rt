@@ -68,6 +68,7 @@ impl<'a> Binder for Bar<'a> {
 
     // Closes what the lists that are no rows do not hold. The binder itself stays as it is, so each sheet
     // goes on keeping every list that is not among its rows.
+    // The clause `shown` is said whole, as the interface says it: an impl with a clause of its own repeats it.
     fn show(&mut self, sheet: usize, slate: &mut OptionBox) -> Result<(), Refusal>
         ensures shown { MatchResult result (λ _. (sheet < (meaning_of self.old.sheets self.old.marks).count) × Shown (meaning_of self.old.sheets self.old.marks) (meaning_of self.new.sheets self.new.marks) sheet slate.old.cells slate.new.cells)
             (λ e. (e ≡ NotThere) × ((meaning_of self.old.sheets self.old.marks).count ≤ sheet) × (self.new ≡ self.old) × (slate.new ≡ slate.old)) }

@@ -61,6 +61,7 @@ impl<'a> Binder for Load<'a> {
 
     // Closes what no light enough list holds. The binder itself stays as it is, so each sheet goes on keeping
     // every list whose weights total at most its cap.
+    // The clause `shown` is said whole, as the interface says it: an impl with a clause of its own repeats it.
     fn show(&mut self, sheet: usize, slate: &mut OptionBox) -> Result<(), Refusal>
         ensures shown { MatchResult result (λ _. (sheet < (meaning_of self.old).count) × Shown (meaning_of self.old) (meaning_of self.new) sheet slate.old.cells slate.new.cells)
             (λ e. (e ≡ NotThere) × ((meaning_of self.old).count ≤ sheet) × (self.new ≡ self.old) × (slate.new ≡ slate.old)) }

@@ -18,6 +18,7 @@ fn total_of(leasts: &[i32]) -> i32
     ensures sum { result ≡ total sums leasts.now }
     ensures small { Summed result }
 {
+    // With `leasts.iter().sum()` the proof did not close: the library's lemmas on sums are over unsigned numbers.
     let mut sum = 0;
     for least in leasts {
         sum += *least;
