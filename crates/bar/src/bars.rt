@@ -7,7 +7,7 @@ ghost use Rattle.catalogue.specs.Verdict.{content};
 ghost use Rattle.catalogue.specs.Views.{is_make};
 ghost use Rattle.sheets.specs.Rules.{Fresh};
 ghost use Rattle.sheets.specs.Tables.{sheets_in};
-ghost use Rattle.bar.specs.Bars.{barring};
+ghost use Rattle.bar.specs.Meaning.{meaning_of};
 ghost use Rattle.bar.specs.Proper.{barring_proper};
 
 use crate::tally::supports;
@@ -33,7 +33,7 @@ pub struct Bar<'a> {
 impl<'a> Bar<'a> {
     // The bar sheets of a checked catalogue, with no mark.
     pub fn new(catalogue: &Catalogue<'a>) -> Bar<'a>
-        ensures { Fresh (sheets_in (content catalogue.now.bytes.now) BarMake) (barring result.sheets.views result.sheets.count result.marks.count) }
+        ensures { Fresh (sheets_in (content catalogue.now.bytes.now) BarMake) (meaning_of result.sheets result.marks) }
     {
         let sheets = sheets_of(catalogue, Make::Bar);
         Bar {
@@ -44,10 +44,12 @@ impl<'a> Bar<'a> {
 }
 
 impl<'a> Binder for Bar<'a> {
-    ghost meaning = { λ x. barring x.sheets.views x.sheets.count x.marks.count };
+    ghost meaning = { λ x. meaning_of x.sheets x.marks };
 
     ghost proper = { λ x. barring_proper x.sheets.make x.sheets.views x.sheets.count x.marks.count x.bars x.sheets.taken x.sheets.few x.sheets.long x.marks.few };
 
+    // The questions and marks hand on to what the makes share. One generic binder over a make's way to find support
+    // would be no plainer: a trait with the meaning, its law and the showing would be longer than these calls.
     fn sheets(&self) -> usize {
         self.sheets.count
     }
@@ -66,9 +68,10 @@ impl<'a> Binder for Bar<'a> {
 
     // Closes what the lists that are no rows do not hold. The binder itself stays as it is, so each sheet
     // goes on keeping every list that is not among its rows.
+    // The clause `shown` is said whole, as the interface says it: an impl with a clause of its own repeats it.
     fn show(&mut self, sheet: usize, slate: &mut OptionBox) -> Result<(), Refusal>
-        ensures shown { MatchResult result (λ _. (sheet < (barring self.old.sheets.views self.old.sheets.count self.old.marks.count).count) × Shown (barring self.old.sheets.views self.old.sheets.count self.old.marks.count) (barring self.new.sheets.views self.new.sheets.count self.new.marks.count) sheet slate.old.cells slate.new.cells)
-            (λ e. (e ≡ NotThere) × ((barring self.old.sheets.views self.old.sheets.count self.old.marks.count).count ≤ sheet) × (self.new ≡ self.old) × (slate.new ≡ slate.old)) }
+        ensures shown { MatchResult result (λ _. (sheet < (meaning_of self.old.sheets self.old.marks).count) × Shown (meaning_of self.old.sheets self.old.marks) (meaning_of self.new.sheets self.new.marks) sheet slate.old.cells slate.new.cells)
+            (λ e. (e ≡ NotThere) × ((meaning_of self.old.sheets self.old.marks).count ≤ sheet) × (self.new ≡ self.old) × (slate.new ≡ slate.old)) }
         ensures stays { self.new ≡ self.old }
     {
         let shown = self.sheets.sheet(sheet)?;

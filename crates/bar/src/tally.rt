@@ -106,6 +106,7 @@ impl Tally {
         requires few { (p o : ℕ) → p < length options.now → o < 32 → slice_index (slice_index_or self.old.counts p []) o < 65536 }
         ensures { Tallied options.now (length options.now) self.old.counts self.new.counts }
     {
+        // `position` only indexes: a `zip` with `iter_mut` tells a proof nothing of what was written.
         for (position, option) in options.iter().enumerate() {
             self.counts[position][*option as usize] += 1;
         }

@@ -20,6 +20,7 @@ const SHEETS: usize = 1024;
 // Both have the same number of marks. No ghost field can say so, since one of a generic struct cannot cite
 // what a parameter means; so the meaning rests on a test: where `both` is unset or the marks differ, the
 // join is the first alone. `new` starts with `both` set and no marks, and every call keeps the test true.
+// An `Option<B>` would not do instead of `both`: a binder that stops counting may not be let go.
 #[derive(Drop)]
 pub struct Join<A: Binder, B: Binder> {
     first: A,

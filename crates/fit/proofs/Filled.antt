@@ -1,8 +1,10 @@
 -- The runs of places as they are first laid. Assumes nothing.
-use Rattle.std.proofs.Common.{◌≡◌, ℕ, zero, suc, ◌+◌, ◌<◌, ◌≤◌, List, length, get_or, set, replicate, sym, refl, ap, ◌∙◌, subst, ⊎_elim, add-one, arith, length-set, get_or-set_other, get_or-set_same, below_more}
+use Rattle.std.proofs.Common.{◌≡◌, ℕ, zero, suc, ◌+◌, ◌/◌, ◌<◌, ◌≤◌, List, length, get_or, take, set, replicate, sym, refl, ap, ◌∙◌, subst, ⊎_elim, add-one, arith, length-set, get_or-set_other, get_or-set_same, get_or-take, below_more}
 use borrow.Rule.Slice.PartMut.{mid_of, put_mid}
 use Rattle.std.proofs.lemmas.Bool.{cases_eq}
+use Rattle.std.proofs.lemmas.List.{get_or_default}
 use Rattle.catalogue.specs.declared.view.View.{View}
+use Rattle.sheets.proofs.Tabled.{shown_there}
 use Rattle.fit.specs.Laid.{row_count, rows_before, Each, Apart, Numbered, Runs}
 use Rattle.fit.proofs.Sifting.{lies_mid, replaced_mid}
 
@@ -32,6 +34,14 @@ before_up views s (suc t) h =
     (λ e. subst (λ k. rows_before views k ≤ rows_before views (suc t)) (sym e) (omega arith))
     (λ ne. omega (arith, before_up views s t (omega arith)))
     (cases_eq s (suc t))
+
+-- how many rows a view among the first n shows
+pub rows_here : (views : List View) (n s : ℕ) (d : View) → s < n → n ≤ length views → length (get_or (take n views) s d).entries.now / 9 ≡ row_count views s
+unfolding row_count
+rows_here views n s d h le =
+    let v = get_or (take n views) s d in
+    let here : v ≡ get_or views s v = get_or-take n views s d h ∙ get_or_default views s d v (omega arith) in
+    ap (λ x. length x.entries / 9) (shown_there views s v (omega arith) here)
 
 -- a sheet's own rows come before the next sheet
 pub before_next : (views : List View) (s t : ℕ) → s < t → rows_before views s + row_count views s ≤ rows_before views t

@@ -37,16 +37,6 @@ pub at_sheet : (a a' e e' : List ℕ) (P : List ℕ → List ℕ → Type 0) →
 at_sheet a a' e e' P p q h = subst (λ y. P a' y) q (subst (λ y. P y e) p h)
 
 module _ (views : List View) (count : ℕ) (starts order counts : List ℕ) (saved : List (List ℕ)) (marks : ℕ) (x : Laid views count starts order counts saved marks) (s : ℕ) (hs : s < count) where
-  -- what a sift asks of the run
-  pub whole : (run : List ℕ) → Lies order run (get_or starts s 0) (get_or counts s 0) → Whole run (entries_of views s)
-  whole run at =
-      record {
-        each = λ p h.
-            let lt : p < get_or counts s 0 = omega (arith, at.long) in
-            subst (λ (v : ℕ). 9 * v + 9 ≤ length (entries_of views s)) (at.at p lt)
-            (row_there views s (get_or order (get_or starts s 0 + p) 0) (x.rows s p hs (omega (arith, x.within s hs))));
-      }
-
   -- a sift of the run, by what the code read of the sheet
   module _ (b next scope entries : List ℕ) (k left : ℕ) (is_scope : scope ≡ scope_of views s) (is_entries : entries ≡ entries_of views s) (all : k ≡ get_or counts s 0) (room : length order ≡ 4096)
       (sifted : Sifted (Suits b scope entries) (mid_of (get_or starts s 0) k order) next left) where

@@ -17,6 +17,8 @@ impl<'a> Binder for Fit<'a> {
 
     ghost proper = { proper_of };
 
+    // The questions and marks hand on to what the makes share. One generic binder over a make's way to find support
+    // would be no plainer: a trait with the meaning, its law and the showing would be longer than these calls.
     fn sheets(&self) -> usize {
         self.sheets.count
     }
@@ -34,6 +36,7 @@ impl<'a> Binder for Fit<'a> {
     }
 
     // Drops the rows that do not fit, all of them, and then closes what the rows that are left do not hold.
+    // The clause `shown` is said whole, as the interface says it: an impl with a clause of its own repeats it.
     fn show(&mut self, sheet: usize, slate: &mut OptionBox) -> Result<(), Refusal>
         ensures shown { MatchResult result (λ _. (sheet < (meaning_of self.old).count) × Shown (meaning_of self.old) (meaning_of self.new) sheet slate.old.cells slate.new.cells)
             (λ e. (e ≡ NotThere) × ((meaning_of self.old).count ≤ sheet) × (self.new ≡ self.old) × (slate.new ≡ slate.old)) }

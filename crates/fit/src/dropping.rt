@@ -1,13 +1,12 @@
 // Drops the rows that do not fit a box from the front of a run of places.
 ghost use Rattle.fit.specs.Runs.{Sifted};
-ghost use Rattle.fit.specs.Rows.{Suits, Whole};
+ghost use Rattle.fit.specs.Rows.{Suits};
 
 use boxes::OptionBox;
 use sheets::sheet::Sheet;
 
 // Moves the rows of a sheet that do not fit to the end of a run of places, and says how many fit.
 pub(crate) fn sift(run: &mut [u16], sheet: &Sheet, slate: &OptionBox) -> usize
-    requires { Whole run.old sheet.now.entries.now }
     ensures { Sifted (Suits slate.now.cells sheet.now.scope.slots.now sheet.now.entries.now) run.old run.new result }
 {
     let mut left = run.len();

@@ -1,5 +1,5 @@
 // Fills a fit binder from a checked catalogue.
-ghost use Rattle.std.specs.Prelude.{◌≡◌, ◌<◌, ◌≤◌, length};
+ghost use Rattle.std.specs.Prelude.{◌≡◌, ◌/◌, ◌<◌, ◌≤◌, length};
 ghost use Rattle.catalogue.specs.Verdict.{content};
 ghost use Rattle.sheets.specs.Tables.{sheets_in};
 ghost use Rattle.sheets.specs.Rules.{Fresh};
@@ -10,16 +10,15 @@ use crate::Fit;
 use binder::marks::Marks;
 use catalogue::checked::Catalogue;
 use catalogue::make::Make;
+use catalogue::view::View;
 use sheets::sheet::ROW;
 use sheets::table::Sheets;
 use sheets::taking::sheets_of;
 
-// How many rows a sheet has.
-#[tactic(auto, unfolding(crate::specs::Laid::row_count))]
-fn row_count(sheets: &Sheets, sheet: usize) -> usize
-    ensures { result ≡ row_count sheets.now.views sheet }
+// How many rows a sheet has, as a view shows it.
+fn row_count(view: &View) -> usize
+    ensures { result ≡ length view.now.entries.now / 9 }
 {
-    let view = sheets.view(sheet);
     view.entries.len() / ROW
 }
 
@@ -29,9 +28,8 @@ fn row_counts(sheets: &Sheets) -> [u16; 64]
     ensures { Each (row_count sheets.now.views) result sheets.now.count }
 {
     let mut counts = [0; 64];
-    // A range is plainer here: a sheet is asked for its rows by its number.
-    for sheet in 0..sheets.count {
-        counts[sheet] = row_count(sheets, sheet) as u16;
+    for (sheet, view) in sheets.views[..sheets.count].iter().enumerate() {
+        counts[sheet] = row_count(view) as u16;
     }
     counts
 }
@@ -43,10 +41,9 @@ fn run_starts(sheets: &Sheets) -> [u16; 64]
 {
     let mut starts = [0; 64];
     let mut start = 0;
-    // A range is plainer here too.
-    for sheet in 0..sheets.count {
+    for (sheet, view) in sheets.views[..sheets.count].iter().enumerate() {
         starts[sheet] = start as u16;
-        start += row_count(sheets, sheet);
+        start += row_count(view);
     }
     starts
 }

@@ -7,6 +7,7 @@ use sheets::sheet::Sheet;
 
 // The masks of the positions, from the rows of a sheet whose numbers are given. A position is done with once
 // all that its slot has open is supported.
+// Two nested loops, which are left by a label, are a named form of the project: a rule of it.
 pub(crate) fn supports(rows: &[u16], sheet: &Sheet, slate: &OptionBox) -> [u32; 8]
     requires whole { Whole rows.now sheet.now.entries.now }
     requires low { Low rows.now sheet.now.entries.now (length sheet.now.scope.slots.now) }

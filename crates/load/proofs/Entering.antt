@@ -1,9 +1,10 @@
 -- The entries of load sheets give weights, and there are at most eight such sheets. Assumes nothing.
-use Rattle.std.proofs.Common.{◌≡◌, ℕ, ◌+◌, ◌<◌, ◌≤◌, true, List, [], ◌∷◌, length, get_or, set, ℤ, sym, refl, ap, subst, arith, get_or-set_other, get_or-set_same, below_more}
+use Rattle.std.proofs.Common.{◌≡◌, ℕ, ◌+◌, ◌<◌, ◌≤◌, true, List, [], ◌∷◌, length, get_or, take, set, ℤ, sym, refl, ap, ◌∙◌, subst, arith, get_or-set_other, get_or-set_same, get_or-take, below_more}
 use mathlib.Core.Logic.{∥∥₁_elim, ∥∥₁_map}
 use native.Mathlib.Bridge.{le_prop}
 use Rattle.std.specs.List.{AllByRecursion}
 use Rattle.std.proofs.lemmas.Bool.{false≢true}
+use Rattle.std.proofs.lemmas.List.{get_or_default}
 use Rattle.catalogue.specs.declared.make.Make.{Make}
 use Rattle.catalogue.specs.declared.make.Make.TheVariants.{Fit, Bar, Load}
 use Rattle.catalogue.specs.declared.view.View.{View}
@@ -12,7 +13,7 @@ use Rattle.catalogue.specs.Checks.{is_load}
 use Rattle.catalogue.specs.Views.{is_make, Shown}
 use Rattle.catalogue.specs.Writing.{entry_bytes}
 use Rattle.sheets.specs.Tables.{Taken, shown_at}
-use Rattle.sheets.proofs.Tabled.{at, sheets_long}
+use Rattle.sheets.proofs.Tabled.{at, sheets_long, shown_there}
 use Rattle.sheets.proofs.Entries.{rows_none, few_options, entries_weights, weight_at_lem}
 use Rattle.load.specs.Given.{no_weight, Gives, Giving, TellsAll}
 
@@ -62,6 +63,13 @@ module _ (m : Make) (views : List View) (n : ℕ) (load : is_make Load m ≡ tru
 
   pub giving_at : (s : ℕ) → s < n → ∥ Giving (shown_at views s).entries ∥₁
   giving_at s h = ∥∥₁_map taken (λ t. giving_taken views n (of_load t) long s h)
+
+-- the entries of a view among the first n
+pub entries_here : (views : List View) (n s : ℕ) (d : View) → s < n → n ≤ length views → (get_or (take n views) s d).entries.now ≡ (shown_at views s).entries
+entries_here views n s d h le =
+    let v = get_or (take n views) s d in
+    let here : v ≡ get_or views s v = get_or-take n views s d h ∙ get_or_default views s d v (omega arith) in
+    ap (λ x. x.entries) (shown_there views s v (omega arith) here)
 
 -- the tables tell the weights of the first n sheets
 abbrev pub AllTold : List View → List (List (List ℤ)) → ℕ → Type 0

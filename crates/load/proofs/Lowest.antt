@@ -1,5 +1,5 @@
 -- The least weight of the options of a cell. Assumes nothing.
-use Rattle.std.proofs.Common.{◌≡◌, ℕ, zero, suc, ◌+◌, ◌<◌, true, false, List, [], ◌∷◌, length, map, get_or, set, ℤ, pos, ◌≤ℤ◌, ◌<ℤ◌, Some, None, Option, Less, Equal, Greater, Ordering, sym, refl, ◌∙◌, ap, subst, ⊎_elim, arith, get_or-set_other, get_or-set_same, below_more}
+use Rattle.std.proofs.Common.{◌≡◌, ℕ, zero, suc, ◌<◌, true, false, List, [], ◌∷◌, length, map, get_or, ℤ, pos, ◌≤ℤ◌, ◌<ℤ◌, Some, None, Option, Less, Equal, Greater, Ordering, sym, refl, ◌∙◌, ap, subst, ⊎_elim, arith}
 use Rattle.std.specs.Prelude.{MatchOption, IfSome, IsSomeAnd}
 use Rattle.std.specs.Option.{option_map}
 use Rattle.std.specs.Ordering.{int_cmp, is_lt, MatchOrdering}
@@ -11,7 +11,7 @@ use Rattle.std.proofs.lemmas.Int.{ints}
 use Rattle.std.proofs.lemmas.Option.{IfSome_then}
 use Rattle.std.proofs.lemmas.List.{get_or-map, length-map}
 use Rattle.boxes.specs.Boxes.{Open, Bit}
-use Rattle.load.specs.Weights.{weighs, OpenIn, cell_at, PeelsOff, Small, Lowest, LowestOf, LowestAt}
+use Rattle.load.specs.Weights.{OpenIn, PeelsOff, Small, LowestOf}
 use Rattle.load.proofs.Bitwise.{top_bit, was_there, is_left, no_bit}
 
 -- what is open has its bit, and the other way

@@ -1,10 +1,10 @@
 -- The total of some weights, and of all but one. Assumes nothing.
-use Rattle.std.proofs.Common.{◌≡◌, ℕ, ◌+◌, ◌*◌, ◌<◌, ◌≤◌, List, length, get_or, drop, ℤ, pos, ◌+ℤ◌, ◌-ℤ◌, neg_ℤ, ◌≤ℤ◌, sym, ap, ◌∙◌, arith}
-use Rattle.std.proofs.lemmas.List.{at_drop_more, at_drop_all, set-get_or}
+use Rattle.std.proofs.Common.{◌≡◌, ℕ, ◌+◌, ◌*◌, ◌<◌, List, length, get_or, drop, ℤ, pos, ◌+ℤ◌, ◌-ℤ◌, neg_ℤ, ◌≤ℤ◌, sym, ap, ◌∙◌, arith}
+use Rattle.std.proofs.lemmas.List.{at_drop_more, set-get_or}
 use Rattle.std.proofs.lemmas.Int.{ints}
 use Rattle.load.specs.Joins.{total}
 use Rattle.load.specs.Sums.{sums}
-use Rattle.load.specs.Weights.{Small, Summed, rest_of}
+use Rattle.load.specs.Weights.{Small, rest_of}
 use Rattle.load.proofs.Joining.{total_set}
 
 -- a sum, and the weights from place i on that are still to be added, come to the whole, and the sum is not large

@@ -41,6 +41,8 @@ impl<'a> Binder for Load<'a> {
 
     ghost proper = { λ x. proper_of x };
 
+    // The questions and marks hand on to what the makes share. One generic binder over a make's way to find support
+    // would be no plainer: a trait with the meaning, its law and the showing would be longer than these calls.
     fn sheets(&self) -> usize {
         self.sheets.count
     }
@@ -59,6 +61,7 @@ impl<'a> Binder for Load<'a> {
 
     // Closes what no light enough list holds. The binder itself stays as it is, so each sheet goes on keeping
     // every list whose weights total at most its cap.
+    // The clause `shown` is said whole, as the interface says it: an impl with a clause of its own repeats it.
     fn show(&mut self, sheet: usize, slate: &mut OptionBox) -> Result<(), Refusal>
         ensures shown { MatchResult result (λ _. (sheet < (meaning_of self.old).count) × Shown (meaning_of self.old) (meaning_of self.new) sheet slate.old.cells slate.new.cells)
             (λ e. (e ≡ NotThere) × ((meaning_of self.old).count ≤ sheet) × (self.new ≡ self.old) × (slate.new ≡ slate.old)) }

@@ -19,6 +19,7 @@ pub(crate) fn leasts_of(table: &Table, scope: &Scope, slate: &OptionBox) -> Opti
     ensures { Leasts slate.now.cells scope.now.slots.now (weights_in table.now) result }
 {
     let mut leasts = [0; 8];
+    // `position` only indexes: a `zip` with `iter_mut` tells a proof nothing of what was written.
     for (position, slot) in scope.slots.iter().enumerate() {
         let cell = slate.cells[*slot as usize];
         leasts[position] = least_of(&table.weights[position], cell)?;

@@ -18,6 +18,7 @@ fn total_of(leasts: &[i32]) -> i32
     ensures sum { result ≡ total sums leasts.now }
     ensures small { Summed result }
 {
+    // With `leasts.iter().sum()` the proof did not close: the library's lemmas on sums are over unsigned numbers.
     let mut sum = 0;
     for least in leasts {
         sum += *least;
@@ -48,6 +49,7 @@ fn masks_of(table: &Table, leasts: &[i32], sheet: &Sheet, slate: &OptionBox) -> 
 {
     let total = total_of(leasts);
     let mut masks = [0; 8];
+    // `position` only indexes: a `zip` with `iter_mut` tells a proof nothing of what was written.
     for (position, slot) in sheet.scope.slots.iter().enumerate() {
         let rest = total - leasts[position];
         let cell = slate.cells[*slot as usize];

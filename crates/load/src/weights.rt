@@ -32,9 +32,8 @@ pub(crate) fn tables_of(sheets: &Sheets) -> [Table; 8]
     let none = Weights { amounts: [0; 32] };
     let empty = Table { weights: [none; 8] };
     let mut tables = [empty; 8];
-    // A range is plainer here: s is the sheet's number, by which it is asked for.
-    'sheets: for s in 0..sheets.count {
-        tables[s] = table_of(sheets.view(s).entries);
+    'sheets: for (s, view) in sheets.views[..sheets.count].iter().enumerate() {
+        tables[s] = table_of(view.entries);
     }
     tables
 }

@@ -18,16 +18,17 @@ pub record At (options : List ℕ) (m : Make) (ts : List Sheet) (views : List Vi
   pub scope : scope_at ts s ≡ sheet.scope
   pub admits : (l : List ℕ) → admits_at ts s l ≡ admits sheet l
 
--- what is shown at a place that has a view, and at one that has none
+-- what is shown at a place, where past the last stands what shows nothing
+pub shown_or : (views : List View) (s : ℕ) (v : View) → shown_by v ≡ shown_at [] 0 → shown_by (get_or views s v) ≡ shown_at views s
+shown_or [] s v e = e
+shown_or (w ∷ vs) zero v e = refl
+shown_or (w ∷ vs) (suc s) v e = shown_or vs s v e
+
+-- what is shown at a place that is there
 pub shown_there : (views : List View) (s : ℕ) (v : View) → s < length views → v ≡ get_or views s v → shown_by v ≡ shown_at views s
 shown_there [] s v h e = absurd (omega arith)
 shown_there (w ∷ vs) zero v h e = ap shown_by e
 shown_there (w ∷ vs) (suc s) v h e = shown_there vs s v (omega arith) e
-
-pub shown_past : (views : List View) (s : ℕ) → length views ≤ s → shown_at [] 0 ≡ shown_at views s
-shown_past [] s h = refl
-shown_past (v ∷ vs) zero h = absurd (omega arith)
-shown_past (v ∷ vs) (suc s) h = shown_past vs s (omega arith)
 
 -- as many sheets as the views that show them
 long_as : (ts : List Sheet) (views : List View) (n : ℕ) → map showing ts ≡ shown_in views n → n ≤ length views → length ts ≡ n

@@ -20,11 +20,6 @@ impl<'a> Scope<'a> {
         if row.len() != self.slots.len() {
             return false;
         }
-        for (slot, option) in self.slots.iter().zip(row) {
-            if !slate.is_open(*slot as usize, *option) {
-                return false;
-            }
-        }
-        true
+        self.slots.iter().zip(row).all(|(slot, option)| slate.is_open(usize::from(*slot), *option))
     }
 }

@@ -23,7 +23,8 @@ pub(crate) fn no_view<'a>() -> View<'a>
 }
 
 // The first `count` views are the sheets, in the file's order. They are sound: some sound catalogue has
-// them. They stand in a table of all that there can be, since the library takes no memory from a heap.
+// them. They stand in a table of all that there can be, since memory is fixed: the library takes none from a
+// heap, and an `ArrayVec` is not `Copy`.
 #[derive(Clone, Copy)]
 pub struct Sheets<'a> {
     pub make: Make,
@@ -35,14 +36,12 @@ pub struct Sheets<'a> {
 }
 
 impl<'a> Sheets<'a> {
-    // Sheet s, counted from 0; what lies past the last of the table shows nothing.
+    // Sheet s, counted from 0; what lies past the last of the table shows nothing. It cannot fail, as promised;
+    // `sheet` stands beside it.
     pub fn view(&self, s: usize) -> View<'a>
         ensures { shown_by result ≡ shown_at self.now.views s }
     {
-        match self.views.get(s) {
-            Some(view) => *view,
-            None => no_view(),
-        }
+        self.views.get(s).copied().unwrap_or(no_view())
     }
 
     // Sheet s, counted from 0, if there is one.
@@ -75,7 +74,7 @@ impl<'a> Sheets<'a> {
     {
         let sheet = self.sheet(s)?;
         match sheet.scope.slots.get(position) {
-            Some(slot) => Ok(*slot as usize),
+            Some(slot) => Ok(usize::from(*slot)),
             None => Err(Refusal::NotThere),
         }
     }

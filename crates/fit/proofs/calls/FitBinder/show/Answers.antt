@@ -2,17 +2,8 @@ use Rattle.std.proofs.Common.{◌+◌, ◌-◌, length, get_or, take, sym, ap, s
 use borrow.Rule.Slice.PartMut.{mid_of, put_mid}
 use Rattle.fit.specs.Rows.{Whole, Low, Gathered}
 use Rattle.fit.specs.Meaning.{laid_out}
-use Rattle.fit.proofs.Sifting.{lies_mid}
-use Rattle.fit.proofs.Showing.{whole, sifted_here, left_here, laid_sifted, whole_after, low_after, exact, shown, at_sheet, narrowed_all}
+use Rattle.fit.proofs.Showing.{sifted_here, left_here, laid_sifted, whole_after, low_after, exact, shown, at_sheet, narrowed_all}
 use Rattle.fit.proofs.calls.FitBinder.show.Goals as goal
-
-pub sift-left-requires : goal.sift-left-requires
-sift-left-requires c =
-    let s = c.args.self.now in
-    let x = laid_out _ _ _ _ _ _ _ s.laid in
-    let hs = c.in_ok-shown.ensures.0 in
-    let run = lies_mid s.order (get_or s.starts c.args.sheet 0) _ (get_or s.counts c.args.sheet 0) (omega arith) (omega (arith, x.room _ hs, x.within _ hs)) in
-    subst (Whole _) (sym (ap (λ v. v.entries) c.in_ok-shown.ensures.1)) (whole _ _ _ _ _ _ _ x _ hs _ run)
 
 pub supports-masks-requires : goal.supports-masks-requires
 supports-masks-requires c =

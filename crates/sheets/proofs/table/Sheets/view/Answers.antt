@@ -1,9 +1,10 @@
-use Rattle.std.proofs.Common.{◌∙◌}
-use Rattle.sheets.proofs.Tabled.{shown_there, shown_past}
+use Rattle.std.proofs.Common.{unwrap_or, ap, ◌∙◌, arith}
+use Rattle.catalogue.specs.Views.{shown_by}
+use Rattle.sheets.proofs.Tabled.{shown_or}
 use Rattle.sheets.proofs.table.Sheets.view.Goals as goal
 
-pub returns-in-Some : goal.returns-in-Some
-returns-in-Some c = let h = c.in-Some.ensures.lookup in shown_there _ _ c.in-Some.view.now h.3.0 h.1
-
-pub returns-in-None : goal.returns-in-None
-returns-in-None c = c.no_view.ensures ∙ shown_past _ _ c.in-None.ensures.lookup.3
+pub returns : goal.returns
+returns c =
+    let none = c.no_view.result in
+    ap shown_by (c.unwrap_or.ensures ∙ ap (λ o. unwrap_or o none) c.copied.ensures ∙ c.get.ensures.lookup.4 (omega arith) none)
+    ∙ shown_or c.args.self.now.views c.args.s none c.no_view.ensures
