@@ -108,7 +108,8 @@ impl<'a> Progress<'a> {
         Ok(())
     }
 
-    // One weight more of the newest sheet.
+    // One weight more of the newest sheet. One function for rows and weights would be no plainer: it would have to ask
+    // which key, length and checks are meant.
     pub(crate) fn add_weight(&self, bytes: &[u8], body: &[u8], at: usize) -> Result<(), Fault>
         requires { Part bytes.now at 4 body.now }
         ensures { Steps bytes.now at (weight body.now) result self.now self.now }

@@ -1,4 +1,5 @@
-// One case: a file with a name, and a line that says what its check answers.
+// One case: a file with a name, and a line that says what its check answers. A name and a file go side by side, as the
+// columns of a table; a struct of the two would be no plainer.
 use catalogue::checked::Catalogue;
 use checker::check;
 use samples::draft::Draft;

@@ -26,7 +26,8 @@ fn total_of(leasts: &[i32]) -> i32
     sum
 }
 
-// The open options of a cell that total at most the cap with the rest.
+// The open options of a cell that total at most the cap with the rest. The crate `bar` gathers a mask by another test;
+// one function over a test would be no plainer, since it would need a law about the test.
 fn mask_of(weights: &Weights, rest: i32, cap: i32, cell: u32) -> u32
     requires { Fair rest }
     ensures { Masked (Allowed weights.now.amounts rest «cap» cell) result }

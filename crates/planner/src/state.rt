@@ -8,6 +8,7 @@ use explore::stack::Stack;
 
 // How many slots there are, and how many options each has. The sizes stand in a table that is as long as there can be
 // slots. It is fixed memory: the library takes none from a heap, and an `ArrayVec` is not `Copy`.
+// A plan that is answered has the same shape and another meaning, so that one type for both would be no plainer.
 #[derive(Clone, Copy)]
 pub struct Slots {
     pub(crate) sizes: [u8; 48],

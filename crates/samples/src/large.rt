@@ -39,7 +39,7 @@ impl Draft {
         (0..n).try_fold(self, |draft, i| draft.row(&numbered(i % 32768)))
     }
 
-    // So many fit sheets more, of 64 rows each. The next function differs by its make and number of rows; one for both
+    // So many fit sheets more, of 64 rows each: at most 41, so that a sheet's eight slots are below 48. The next function differs by its make and number of rows; one for both
     // would be no plainer, since the length would then be a product of two numbers that it does not know.
     fn fit_sheets(self, n: u8) -> Result<Draft, AllocError>
         requires { n ≤ 41 }

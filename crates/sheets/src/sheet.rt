@@ -9,7 +9,8 @@ use crate::scope::Scope;
 pub const ROW: usize = 9;
 
 // The slots that it names, in their order; the cap, which is 0 where a make has none, as the definition says;
-// and its rows or weights, each with its byte of kind.
+// and its rows or weights, each with its byte of kind. It is a view whose scope carries its two facts; the view itself
+// cannot carry them, since that would ask more of whoever makes one.
 #[derive(Clone, Copy)]
 pub struct Sheet<'a> {
     pub scope: Scope<'a>,
