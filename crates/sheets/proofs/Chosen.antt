@@ -1,9 +1,9 @@
 -- That the sheets of a make, taken from a checked catalogue, are sound ones. Assumes nothing.
-use Rattle.std.proofs.Common.{◌≡◌, ℕ, zero, suc, ◌+◌, ◌<◌, ◌≤◌, Bool, true, false, cond, List, [], ◌∷◌, map, length, get_or, take, unwrap_or, Option, Some, None, Ok, Err, filter, Result, sym, refl, ap, ◌∙◌, subst, arith}
+use Rattle.std.proofs.Common.{◌≡◌, ℕ, zero, suc, ◌+◌, ◌<◌, ◌≤◌, Bool, true, false, cond, List, [], ◌∷◌, ◌++◌, map, length, get_or, take, set, pos, Some, None, Ok, Err, filter, Result, sym, refl, ap, ◌∙◌, subst, arith}
 use Rattle.std.specs.List.{slice_get, AllByRecursion}
 use Rattle.std.proofs.ByRecursion.{all_kept_by, kept_by_passes, All-weaker}
-use Rattle.std.proofs.lemmas.List.{length-map, length-take-le, ext_get_or, get_or-map, get_or-take}
-use Rattle.std.proofs.lemmas.Option.{unwrap_or-slice_get}
+use Rattle.std.proofs.lemmas.List.{length-map, length-set, take_all, take_more, take_more_set, map_push}
+use Rattle.std.proofs.lemmas.Option.{slice_get-get_or}
 use Rattle.std.proofs.lemmas.Bool.{false≢true}
 use Rattle.catalogue.specs.declared.counts.Counts.{Counts}
 use Rattle.catalogue.specs.declared.fault.Fault.{Fault}
@@ -77,26 +77,42 @@ pub sheet_said_lem : (r : Result Content Fault) (m : Make) (i : ℕ) → sheet_s
 sheet_said_lem (Ok w) m i = nth_showing (of_make m w.sheets) i
 sheet_said_lem (Err f) m i = refl
 
--- What is shown by what stands for a sheet that may be there, where what stands for none shows nothing.
-pub stands_for : (o : Option View) (s : Option Shown) (v d : View) → seen o ≡ s → v ≡ unwrap_or o d → shown_by v ≡ unwrap_or s (shown_by d)
-stands_for None s v d e is = ap shown_by is ∙ ap (λ x. unwrap_or x (shown_by d)) e
-stands_for (Some w) s v d e is = ap shown_by is ∙ ap (λ x. unwrap_or x (shown_by d)) e
+-- one view more
+more : (views : List View) (want : List Shown) (i : ℕ) (v : View) → i < length views → i < length want → seen (Some v) ≡ slice_get want i → shown_in views i ≡ take i want → shown_in (set views i v) (i + 1) ≡ take (i + 1) want
+more views want i v h l e k =
+    let d = shown_by v in
+    let n = slice_get-get_or want i d l in
+    let x : shown_by v ≡ get_or want i d = cc in
+    ap (map shown_by) (take_more_set views i v h) ∙ map_push shown_by (take i views) v ∙ ap (λ s. s ++ d ∷ []) k ∙ ap (λ y. take i want ++ y ∷ []) x ∙ sym (take_more want i d l)
 
--- views that show at each place what is said there are those of the sheets of a make
-all_shown : (r : Result Content Fault) (m : Make) (views : List View) (n : ℕ) (none : Shown) → length views ≡ 64 → n ≤ 64 → n ≡ count_said r m
-    → ((k : ℕ) (d : View) → k < 64 → shown_by (get_or views k d) ≡ unwrap_or (sheet_said r m k) none) → shown_in views n ≡ map showing (sheets_in r m)
-all_shown r m [] n none long few count each = absurd (omega (arith, long))
-all_shown r m (d ∷ vs) n none long few count each =
-    let views = d ∷ vs in
-    let want = map showing (sheets_in r m) in
-    let ends : length want ≡ n = length-map (sheets_in r m) showing ∙ sym (count_said_lem r m) ∙ sym count in
-    let taken : length (shown_in views n) ≡ n = length-map (take n views) shown_by ∙ length-take-le n views (omega (arith, long)) in
-    ext_get_or none (shown_in views n) want (taken ∙ sym ends)
-    (λ k l. get_or-map shown_by (take n views) k d none (omega (arith, length-map (take n views) shown_by))
-    ∙ ap shown_by (get_or-take n views k d (omega (arith, taken)))
-    ∙ each k d (omega (arith, taken))
-    ∙ ap (λ x. unwrap_or x none) (sheet_said_lem r m k)
-    ∙ unwrap_or-slice_get want k none)
+-- there is a sheet at each place before the end
+none_there : (want : List Shown) (i : ℕ) → i < length want → seen None ≡ slice_get want i → ⊥
+none_there want i l e =
+    let n = slice_get-get_or want i (record { scope = []; «cap» = pos 0; entries = [] }) l in
+    let z : ◌≡◌ {A = ℕ} 0 1 = cc in
+    omega arith
+
+-- the first i of n sheets of a make are taken
+pub record Filled (r : Result Content Fault) (m : Make) (views : List View) (i n : ℕ) : Type 0 where
+  pub long : length views ≡ 64
+  pub within : i ≤ n
+  pub shown : shown_in views i ≡ take i (map showing (sheets_in r m))
+
+module _ (r : Result Content Fault) (m : Make) where
+  want_long : (n : ℕ) → n ≡ count_said r m → length (map showing (sheets_in r m)) ≡ n
+  want_long n e = length-map (sheets_in r m) showing ∙ sym (count_said_lem r m) ∙ sym e
+
+  pub filled_none : (views : List View) (n : ℕ) → length views ≡ 64 → Filled r m views 0 n
+  filled_none views n e = record { long = e; within = omega arith; shown = refl }
+
+  pub filled_all : (views all : List View) (i n : ℕ) → Filled r m views i n → n ≤ i → n ≡ count_said r m → all ≡ views → shown_in all n ≡ map showing (sheets_in r m)
+  filled_all views all i n f h count e =
+      let at : n ≡ i = omega (arith, f.within) in
+      ap (λ l. shown_in l n) e ∙ ap (shown_in views) at ∙ f.shown ∙ take_all i _ (omega (arith, want_long n count))
+
+  pub never_none : (i n : ℕ) → i < n → n ≡ count_said r m → seen None ≡ sheet_said r m i → ⊥
+  never_none i n l count e =
+      none_there (map showing (sheets_in r m)) i (omega (arith, want_long n count)) (e ∙ sheet_said_lem r m i)
 
 module _ (bs : List ℕ) (c : Counts) (a : accepts bs c ≡ true) (o : Octets bs) (m : Make) where
   sheets_are : (h : Held bs c) → sheets_in (content bs) m ≡ of_make m h.list.sheets
@@ -130,7 +146,13 @@ module _ (bs : List ℕ) (c : Counts) (a : accepts bs c ≡ true) (o : Octets bs
   unfolding taken_of
   taken_sheets views n e = sym (sheets_are (held bs c a o))
 
-  -- views that show at each place what is said there are the catalogue's
-  pub taken_all : (views : List View) (n : ℕ) (none : Shown) → length views ≡ 64 → n ≡ count_said (content bs) m
-      → ((k : ℕ) (d : View) → k < 64 → shown_by (get_or views k d) ≡ unwrap_or (sheet_said (content bs) m k) none) → shown_in views n ≡ map showing (sheets_in (content bs) m)
-  taken_all views n none long count each = all_shown (content bs) m views n none long (omega (arith, count_few)) count each
+  -- one sheet more is taken, since there is one
+  pub filled_more : (views next : List View) (i n : ℕ) (v : View) → Filled (content bs) m views i n → i < n → n ≡ count_said (content bs) m → seen (Some v) ≡ sheet_said (content bs) m i → next ≡ set views i v → Filled (content bs) m next (i + 1) n
+  filled_more views next i n v f l count e is =
+      let want = map showing (sheets_in (content bs) m) in
+      let step = more views want i v (omega (arith, f.long, count_few)) (omega (arith, want_long (content bs) m n count)) (e ∙ sheet_said_lem (content bs) m i) f.shown in
+      record {
+        long = ap length is ∙ length-set views i v ∙ f.long;
+        within = omega arith;
+        shown = ap (λ l. shown_in l (i + 1)) is ∙ step;
+      }

@@ -7,7 +7,6 @@ ghost use Rattle.sheets.specs.Tables.{shown_in, sheets_in};
 use crate::table::{Sheets, no_view};
 use catalogue::checked::Catalogue;
 use catalogue::make::Make;
-use std::array;
 
 // All sheets of a make, in the file's order.
 #[tactic(auto, using(crate::proofs::Chosen::count_few))]
@@ -17,6 +16,13 @@ pub fn sheets_of<'a>(catalogue: &Catalogue<'a>, make: Make) -> Sheets<'a>
     ensures count { result.count ≡ length (sheets_in (content catalogue.now.bytes.now) make) }
 {
     let count = catalogue.sheet_count(make);
-    let views = array::from_fn(|i| catalogue.sheet(make, i).unwrap_or(no_view()));
+    let mut views = [no_view(); 64];
+    // With `array::from_fn` and a closure that asks the catalogue this is proved too, but the prover cannot write down what
+    // other crates need of that proof.
+    'sheets: for i in 0..count {
+        if let Some(view) = catalogue.sheet(make, i) {
+            views[i] = view;
+        }
+    }
     Sheets { make, views, count }
 }
