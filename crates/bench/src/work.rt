@@ -1,0 +1,93 @@
+// What is done with a planner, and a number that depends on all that came out.
+use binder::binders::Binder;
+use catalogue::checked::Catalogue;
+use catalogue::make::Make;
+use planner::state::Planner;
+use planner::step::Step;
+use samples::random::Random;
+
+// How many answers there were, and a number that depends on each.
+#[derive(Clone, Copy, Default)]
+pub struct Tally {
+    pub answers: u64,
+    pub checksum: u64,
+}
+
+impl Tally {
+    fn mix(&mut self, number: u64) {
+        self.checksum = self.checksum.wrapping_mul(31).wrapping_add(number);
+    }
+
+    fn note(&mut self, number: u64) {
+        self.answers = self.answers.wrapping_add(1);
+        self.mix(number);
+    }
+
+    fn note_plan(&mut self, plan: &[u8]) {
+        self.answers = self.answers.wrapping_add(1);
+        for option in plan {
+            self.mix(u64::from(*option));
+        }
+    }
+}
+
+// Asks for so many plans. After the last one the walk begins again.
+pub fn walk<B: Binder + Drop>(planner: Planner<B>, count: u32) -> Tally {
+    let mut tally = Tally::default();
+    let mut plan = [0; 48];
+    let mut walk = planner.begin();
+    for _ in 0..count {
+        match walk.next(&mut plan[..]) {
+            Ok(Step::Plan) => tally.note_plan(&plan),
+            _ => {
+                tally.note(0);
+                walk = walk.end().begin();
+            }
+        }
+    }
+    tally
+}
+
+// What a person does at an order screen: three tries, a strike, six looks, and all taken back.
+pub fn screen<B: Binder + Drop>(mut planner: Planner<B>, count: u32) -> Tally {
+    let mut tally = Tally::default();
+    let mut random = Random::new(1);
+    for _ in 0..count {
+        for _ in 0..3 {
+            let tried = planner.try_option(random.below(48) as usize, random.below(32) as usize);
+            tally.note(u64::from(tried.unwrap_or(0)));
+        }
+        let struck = planner.strike(random.below(48) as usize, random.below(32) as usize);
+        tally.note(u64::from(struck.unwrap_or(0)));
+        for _ in 0..6 {
+            let looked = planner.look(random.below(48) as usize);
+            tally.note(u64::from(looked.unwrap_or(0)));
+        }
+        for _ in 0..3 {
+            tally.note(u64::from(planner.back().unwrap_or(0)));
+        }
+    }
+    tally
+}
+
+// Reads every row and weight once, byte by byte.
+fn read_once(catalogue: &Catalogue, tally: &mut Tally) {
+    for make in [Make::Fit, Make::Bar, Make::Load] {
+        for sheet in 0..catalogue.sheet_count(make) {
+            if let Some(view) = catalogue.sheet(make, sheet) {
+                for byte in view.entries {
+                    tally.mix(u64::from(*byte));
+                }
+            }
+        }
+    }
+}
+
+pub fn read(catalogue: &Catalogue, count: u32) -> Tally {
+    let mut tally = Tally::default();
+    for _ in 0..count {
+        tally.answers = tally.answers.wrapping_add(1);
+        read_once(catalogue, &mut tally);
+    }
+    tally
+}
