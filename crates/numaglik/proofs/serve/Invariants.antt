@@ -1,5 +1,5 @@
 use Rattle.std.proofs.Common.{◌≡◌, ◌+◌, ◌-◌, ◌*◌, ◌≤◌, cond, vec_len}
-use Rattle.numaglik_commands.proofs.serve.Given as goal
+use Rattle.numaglik.proofs.serve.Given as goal
 
 abbrev pub invariant-reads : goal.invariant-reads
 invariant-reads g l = (vec_len l.input ≡ 65536) × (l.from ≤ l.to) × (l.to ≤ 65536)

@@ -1,6 +1,6 @@
 use Rattle.std.proofs.Common.{arith}
-use Rattle.numaglik_commands.proofs.Ending.{reads_fall}
-use Rattle.numaglik_commands.proofs.serve.Goals as goal
+use Rattle.numaglik.proofs.Ending.{reads_fall}
+use Rattle.numaglik.proofs.serve.Goals as goal
 
 pub reads-smaller : goal.reads-smaller
 reads-smaller g c =
