@@ -244,6 +244,10 @@ differ_at b c s h hb hc ne =
       apart = λ e. w.2 (bits_from _ _ (omega arith) (omega arith) (sym (test_in b s w.0 w.1) ∙ e ∙ test_in c s w.0 w.1));
     }
 
+pub differ_there : (b c : List ℕ) (s : ℕ) → s < 48 → get_or b s 0 < 2 ^ 32 → get_or c s 0 < 2 ^ 32 → (get_or b s 0 ≡ get_or c s 0 → ⊥) → (d : Differ b c) × (d.slot ≡ s)
+unfolding differ_at
+differ_there b c s h hb hc ne = (differ_at b c s h hb hc ne, refl)
+
 -- the first cells are the same, or some are not
 compared : (b c : List ℕ) (n : ℕ) → ((t : ℕ) → t < n → get_or b t 0 ≡ get_or c t 0) ⊎ ((t : ℕ) × (t < n) × (get_or b t 0 ≡ get_or c t 0 → ⊥))
 compared b c zero = inl (λ t h. absurd (omega arith))

@@ -1,3 +1,4 @@
 pub mod Bits
 pub mod Counting
 pub mod Made
+pub mod Sets

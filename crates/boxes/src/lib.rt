@@ -5,6 +5,8 @@ ghost use Rattle.std.specs.Prelude.{◌≡◌, ◌≤◌, ℕ, [], ◌∷◌, le
 ghost use Rattle.subject.specs.Boxes.{opened_at, opened};
 ghost use Rattle.boxes.specs.Boxes.{Open, opens, Opened, Closed, Restricted, Fixed, Filled, Some as SomeOpen, Lowest, Two, Loose, Single, Below, SameBox};
 
+pub mod slots;
+
 use std::array;
 
 // How many slots and options a box covers.

@@ -7,7 +7,8 @@ use Rattle.std.proofs.lemmas.List.{get_or-map, length-take-le, get_or-take}
 use Rattle.std.proofs.lemmas.Option.{slice_get_cases}
 use Rattle.std.proofs.lemmas.Bool.{cases_eq, cases_lt, cases_order}
 use Rattle.subject.specs.Boxes.{Box, Inside}
-use Rattle.boxes.specs.Boxes.{Open, opens, Closed, Fixed, Least, Branching, Two}
+use Rattle.boxes.specs.Boxes.{Open, opens, Bit, Closed, Fixed, Least, Branching, Two}
+use Rattle.boxes.specs.Slots.{Lone}
 use Rattle.boxes.specs.declared.OptionBox.{OptionBox}
 use Rattle.boxes.proofs.Bits.{open_low, open_same}
 use Rattle.boxes.proofs.Counting.{opens_is, opened_lt}
@@ -85,7 +86,7 @@ split_place K top i b s h narrow sub w =
     (λ ge. ge)
     (cases_lt s i)
 
-module _ (K J : ℕ → Box) (i : ℕ) (C : Box) (cut : Split K J i C) (sub : Inside C (K i)) where
+module _ (K J : ℕ → Box) (i : ℕ) (C : Box) (A B : ℕ → ℕ) (cut : Split K J A B i C) (sub : Inside C (K i)) where
   -- where i + 1 is above the slot, the slot is the one with its option alone
   first_sole : (t : ℕ) → t < suc i → i ≤ cut.slot → Sole (J (suc i)) t
   first_sole t h le o p u v =
@@ -102,7 +103,7 @@ module _ (K J : ℕ → Box) (i : ℕ) (C : Box) (cut : Split K J i C) (sub : In
   narrow_split : i ≤ cut.slot → Narrow K (suc i) → Narrow J (suc (suc i))
   narrow_split le was = record {
     sole = λ j t h l. ⊎_elim
-        (λ k. let v = new_in K J i C cut sub j h in λ o p u w. was.sole v.0 t v.1 (lower j t l k v.0 v.2) o p (v.3 t o u) (v.3 t p w))
+        (λ k. let v = new_in K J i C A B cut sub j h in λ o p u w. was.sole v.0 t v.1 (lower j t l k v.0 v.2) o p (v.3 t o u) (v.3 t p w))
         (λ e. subst (λ z. Sole (J z) t) (sym e) (first_sole t (omega arith) le))
         (below_or j (suc i) h);
   }
@@ -157,9 +158,13 @@ module _ (b : List ℕ) (s o : ℕ) where
 abbrev pub after : Stack → OptionBox → OptionBox → List OptionBox
 after t r f = set (set t.boxes (t.top - 1) r) t.top f
 
--- what a split of b into r and f makes of the stack
-pub record Divided (t : Stack) (b r f : OptionBox) : Type 0 where
-  pub split : Split (box_at t.boxes) (box_at (after t r f)) (t.top - 1) (opens b.cells)
+-- the sets of lost slots of a stack, with one set in the place of the next and above it
+abbrev pub lost_after : Stack → ℕ → List ℕ
+lost_after t set-of = set (set t.lost (t.top - 1) set-of) t.top set-of
+
+-- what a split of b into r and f, at the slot of a set, makes of the stack
+pub record Divided (t : Stack) (b r f : OptionBox) (lost : ℕ) : Type 0 where
+  pub split : Split (box_at t.boxes) (box_at (after t r f)) (λ i. get_or t.lost i 0) (λ i. get_or (lost_after t lost) i 0) (t.top - 1) (opens b.cells)
   pub narrow : ∥ Narrow (box_at (after t r f)) (t.top + 1) ∥₁
   pub less : weight (box_at (after t r f)) (t.top + 1) < weight (box_at t.boxes) t.top
 
@@ -168,7 +173,7 @@ pub room : (t : Stack) (b : List ℕ) (s : ℕ) → 0 < t.top → Inside (opens 
 room t b s some sub loose =
     let place = split_place (box_at t.boxes) t.top (t.top - 1) b s (omega arith) t.narrow sub loose.two in omega (arith, loose.small)
 
-module _ (t : Stack) (b r f : OptionBox) (s o : ℕ) (some : 0 < t.top) (sub : Inside (opens b.cells) (box_at t.boxes (t.top - 1)))
+module _ (t : Stack) (b r f : OptionBox) (lost s o : ℕ) (lone : Lone lost s) (some : 0 < t.top) (sub : Inside (opens b.cells) (box_at t.boxes (t.top - 1)))
     (loose : Branching b.cells s) (low : Least b.cells s o) (closed : Closed b.cells r.cells s o) (fixed : Fixed b.cells f.cells s o) where
   place : t.top - 1 ≤ s
   place = split_place (box_at t.boxes) t.top (t.top - 1) b.cells s (omega arith) t.narrow sub loose.two
@@ -184,7 +189,17 @@ module _ (t : Stack) (b r f : OptionBox) (s o : ℕ) (some : 0 < t.top) (sub : I
       let h : t.top < length (set t.boxes (t.top - 1) r) = rw length-set (omega (arith, place, loose.small, t.tall.1)) in
       ap (box_at (after t r f)) e ∙ box_set (set t.boxes (t.top - 1) r) t.top f h
 
-  splits : Split (box_at t.boxes) (box_at (after t r f)) (t.top - 1) (opens b.cells)
+  lost_at_rest : get_or (lost_after t lost) (t.top - 1) 0 ≡ lost
+  lost_at_rest =
+      get_or-set_other (set t.lost (t.top - 1) lost) t.top (t.top - 1) lost 0 (λ e. omega arith)
+      ∙ get_or-set_same t.lost (t.top - 1) lost 0 (omega (arith, place, loose.small, t.even))
+
+  lost_at_first : get_or (lost_after t lost) (suc (t.top - 1)) 0 ≡ lost
+  lost_at_first =
+      let e : suc (t.top - 1) ≡ t.top = omega arith in
+      ap (λ i. get_or (lost_after t lost) i 0) e ∙ get_or-set_same (set t.lost (t.top - 1) lost) t.top lost 0 (rw length-set (omega (arith, place, loose.small, t.even)))
+
+  splits : Split (box_at t.boxes) (box_at (after t r f)) (λ i. get_or t.lost i 0) (λ i. get_or (lost_after t lost) i 0) (t.top - 1) (opens b.cells)
   splits =
       let p = second b.cells s o loose.two in
       record {
@@ -201,9 +216,12 @@ module _ (t : Stack) (b r f : OptionBox) (s o : ℕ) (some : 0 < t.top) (sub : I
             (rest_is b.cells s o r.cells closed);
         first = subst (λ Y. (u p : ℕ) → T (Y u p) ↔ (T (opens b.cells u p) × ((u ≡ s) × (p ≢ o) → ⊥))) (sym at_first)
             (part_is b.cells s o f.cells fixed);
+        lost_below = λ j h. get_or-set_other (set t.lost (t.top - 1) lost) t.top j lost 0 (λ e. omega arith) ∙ get_or-set_other t.lost (t.top - 1) j lost 0 (λ e. omega arith);
+        lost_rest = subst (λ n. Bit n s) (sym lost_at_rest) (lone.here loose.small);
+        lost_first = subst (λ n. Bit n s) (sym lost_at_first) (lone.here loose.small);
       }
 
-  pub divided : Divided t b r f
+  pub divided : Divided t b r f lost
   unfolding splits
   divided =
       let more : suc (suc (t.top - 1)) ≡ t.top + 1 = omega arith in
@@ -212,7 +230,7 @@ module _ (t : Stack) (b r f : OptionBox) (s o : ℕ) (some : 0 < t.top) (sub : I
       record {
         split = splits;
         narrow = subst (λ k. ∥ Narrow (box_at (after t r f)) k ∥₁) more
-            (∥∥₁_map t.narrow (λ n. narrow_split _ _ (t.top - 1) (opens b.cells) splits sub place (subst (Narrow (box_at t.boxes)) (sym high) n)));
+            (∥∥₁_map t.narrow (λ n. narrow_split _ _ (t.top - 1) (opens b.cells) _ _ splits sub place (subst (Narrow (box_at t.boxes)) (sym high) n)));
         less = subst₂ (λ x y. weight (box_at (after t r f)) x < weight (box_at t.boxes) y) more high
-            (lighter_split _ _ (t.top - 1) (opens b.cells) splits sub loose.small small);
+            (lighter_split _ _ (t.top - 1) (opens b.cells) _ _ splits sub loose.small small);
       }

@@ -1,5 +1,5 @@
 -- An exploration as it begins, takes a turn and ends. Assumes nothing.
-use Rattle.std.proofs.Common.{◌≡◌, ℕ, suc, ◌+◌, ◌<◌, ◌≤◌, min, T, List, [], ◌∷◌, length, get_or, take, sym, ap, ◌∙◌, subst, subst₂, ⊎_elim, arith, length-take, get_or-take}
+use Rattle.std.proofs.Common.{◌≡◌, ℕ, suc, ◌+◌, ◌<◌, ◌≤◌, min, Bool, true, false, cond, nat_lt, T, ltb→lt, lt→ltb, refl, List, [], ◌∷◌, length, get_or, take, sym, ap, ◌∙◌, subst, subst₂, ⊎_elim, arith, length-take, get_or-take}
 use Rattle.std.proofs.lemmas.Bool.{cases_lt}
 use Rattle.subject.specs.Problem.{Problem, Placed}
 use Rattle.subject.specs.Boxes.{Box, Inside, Supported, LargestIn}
@@ -8,13 +8,14 @@ use Rattle.subject.specs.Decisions as Subject
 use Rattle.subject.specs.Plans.{Plan, First, NoMore}
 use Rattle.subject.proofs.Largest.{largest_within}
 use Rattle.subject.proofs.Standing.{open_real}
-use Rattle.boxes.specs.Boxes.{opens, Some, Two}
+use Rattle.boxes.specs.Boxes.{opens, Bit, Some, Two}
 use Rattle.boxes.proofs.Bits.{open_there}
 use Rattle.boxes.proofs.Counting.{opens_is}
 use Rattle.binder.specs.Meaning.{Binding, Proper, Noted}
-use Rattle.settle.specs.Keeping.{Has, Keeps}
+use Rattle.settle.specs.Keeping.{Has, Keeps, Based}
+use Rattle.settle.specs.Reach.{Covers, Resting}
 use Rattle.settle.specs.Settled.{Settled}
-use Rattle.settle.proofs.Keeping.{inside_cells}
+use Rattle.settle.proofs.Keeping.{inside_cells, keeps_less, backed_largest, backed_largest_in, based_same, covers_has, resting_based}
 use Rattle.explore.specs.Pending.{Lies, Pending}
 use Rattle.explore.specs.Narrow.{Sole}
 use Rattle.explore.specs.Rewound.{Rewound}
@@ -23,43 +24,59 @@ use Rattle.explore.specs.Exploring.{Exploring}
 use Rattle.explore.specs.Laid.{Laid}
 use Rattle.explore.specs.Split.{Split}
 use Rattle.explore.proofs.Plans.{lies_inside, lies_settled, settled_supported, sole_meets, sole_one}
-use Rattle.explore.proofs.Waiting.{pending_one, pending_none, pending_plan, pending_split, new_in}
+use Rattle.explore.proofs.Waiting.{below_or, pending_one, pending_none, pending_plan, pending_split, new_in}
 use Rattle.explore.proofs.Leveling.{has_sheets, framed_rewound, levels_begin, levels_back, levels_split}
 use Rattle.explore.proofs.Stacking.{sole_from}
 
+if_lt : {A : Type 0} (a b : ℕ) (x y : A) → a < b → cond (nat_lt a b) x y ≡ x
+if_lt a b x y h = go (nat_lt a b) (lt→ltb a b h)
+  where
+    go : (t : Bool) → T t → cond t x y ≡ x
+    go true h = refl
+    go false h = absurd h
+
+if_not_lt : {A : Type 0} (a b : ℕ) (x y : A) → b ≤ a → cond (nat_lt a b) x y ≡ y
+if_not_lt a b x y h = go (nat_lt a b) (λ t. let k = ltb→lt a b t in absurd (omega arith))
+  where
+    go : (t : Bool) → (T t → ⊥) → cond t x y ≡ y
+    go true f = absurd (f tt)
+    go false f = refl
+
 -- An exploration begins: the binder marks its level, and the one box to be explored is the largest.
-pub exploring_begins : (P : Problem) (D : List Decision) (X : Box) (m n : Binding) (K : ℕ → Box) → 0 < length P.sizes → m.marks + 49 ≤ 72
-    → Has P m → Keeps P X m.kept → Largest P D X → Noted m n → K 0 ≡ X → Exploring P D [] X m K 1 n
-exploring_begins P D X m n K some room has keeps big noted e = record {
+pub exploring_begins : (P : Problem) (D : List Decision) (X : Box) (m n : Binding) (K : ℕ → Box) (A : ℕ → ℕ) → 0 < length P.sizes → m.marks + 49 ≤ 72
+    → Has P m → Keeps P X m.kept → Largest P D X → Noted m n → K 0 ≡ X → Exploring P D [] X m K A 1 n
+exploring_begins P D X m n K A some room has keeps big noted e = record {
   some = some;
   largest = big;
   room = room;
   has = has_sheets P m n has noted.sheets;
   inside = λ i h s o t. let z : i ≡ 0 = omega arith in subst (λ Y. T (Y s o)) (ap K z ∙ e) t;
-  levels = levels_begin P X m K n e keeps noted;
+  bases = λ i. X;
+  based = λ i h. let z : i ≡ 0 = omega arith in subst (λ Y. Based P X Y (A i)) (sym (ap K z ∙ e)) (based_same P X (A i) (backed_largest P D X big));
+  levels = levels_begin P X m (λ i. X) n refl keeps noted;
   pending = pending_one P D X K big e;
 }
 
 -- An exploration is left: the marks of its boxes are undone.
-pub exploring_left : (P : Problem) (D : List Decision) (G : List Plan) (X : Box) (m : Binding) (K : ℕ → Box) (top : ℕ) (n o : Binding)
-    → Exploring P D G X m K top n → Rewound n o top → Returned P X m o
-exploring_left P D G X m K top n o was back =
+pub exploring_left : (P : Problem) (D : List Decision) (G : List Plan) (X : Box) (m : Binding) (K : ℕ → Box) (A : ℕ → ℕ) (top : ℕ) (n o : Binding)
+    → Exploring P D G X m K A top n → Rewound n o top → Returned P X m o
+exploring_left P D G X m K A top n o was back =
     let e : top ≡ 0 + top = omega arith in
-    let at = levels_back P X m K top 0 top n o e was.levels back in
+    let at = levels_back P X m was.bases top 0 top n o e was.levels back in
     record { has = has_sheets P n o was.has back.sheets; marks = omega (arith, at.marks); older = at.older; keeps = at.keeps }
 
 -- No box is left to be explored.
-pub exploring_over : (P : Problem) (D : List Decision) (G : List Plan) (X : Box) (m : Binding) (K : ℕ → Box) (top : ℕ) (n : Binding)
-    → top ≡ 0 → Exploring P D G X m K top n → NoMore P D G
-exploring_over P D G X m K top n e was q mq b = let w = (was.pending.left q mq).0 b in omega (arith, w.1)
+pub exploring_over : (P : Problem) (D : List Decision) (G : List Plan) (X : Box) (m : Binding) (K : ℕ → Box) (A : ℕ → ℕ) (top : ℕ) (n : Binding)
+    → top ≡ 0 → Exploring P D G X m K A top n → NoMore P D G
+exploring_over P D G X m K A top n e was q mq b = let w = (was.pending.left q mq).0 b in omega (arith, w.1)
 
 -- A turn: the uppermost box, number i, stands in the cells b and was settled to c, by which the binder n became k. After
 -- the turn the binder is o, and the boxes J below t are to be explored.
-module _ (K J : ℕ → Box) (top i t : ℕ) (n k o : Binding) (slots : ℕ) (b c : List ℕ) (high : top ≡ suc i) (next : opens b ≡ K i)
-    (done : Settled n k slots b c) (P : Problem) (D : List Decision) (G : List Plan) (X : Box) (m : Binding) (size : length P.sizes ≡ slots)
-    (before : Exploring P D G X m K top n) where
-  was : Exploring P D G X m K (suc i) n
-  was = subst (λ z. Exploring P D G X m K z n) high before
+module _ (K J : ℕ → Box) (A B : ℕ → ℕ) (masks : List ℕ) (top i t : ℕ) (n k o : Binding) (slots : ℕ) (b c : List ℕ) (high : top ≡ suc i) (next : opens b ≡ K i)
+    (done : Settled n k masks (A i) slots b c) (P : Problem) (D : List Decision) (G : List Plan) (X : Box) (m : Binding) (size : length P.sizes ≡ slots) (covers : Covers P.sheets P.scope masks)
+    (before : Exploring P D G X m K A top n) where
+  was : Exploring P D G X m K A (suc i) n
+  was = subst (λ z. Exploring P D G X m K A z n) high before
 
   settled_in : Inside (opens c) (K i)
   settled_in = subst (Inside (opens c)) next (inside_cells b c done.less)
@@ -67,45 +84,53 @@ module _ (K J : ℕ → Box) (top i t : ℕ) (n k o : Binding) (slots : ℕ) (b 
   open_at : (s o : ℕ) → T (K i s o) → Subject.Open P D s o
   open_at s o t = (was.largest s o).0 (was.inside i (omega arith) s o t)
 
+  based_b : Based P (was.bases i) (opens b) (A i)
+  based_b = subst (λ Y. Based P (was.bases i) Y (A i)) (sym next) (was.based i (omega arith))
+
   keeps_b : Keeps P (opens b) n.kept
-  keeps_b = subst (λ Y. Keeps P Y n.kept) (sym next) was.levels.keeps
+  keeps_b = keeps_less P (was.bases i) (opens b) n.kept based_b.inside was.levels.keeps
+
+  rest_b : Resting n masks b (A i)
+  rest_b = resting_based P n masks b (was.bases i) (A i) was.has was.levels.keeps (covers_has P n masks was.has covers) based_b
 
   largest_c : Placed P → LargestIn P (K i) (opens c)
   largest_c placed =
       subst (λ Y. LargestIn P Y (opens c)) next
-      (done.largest P was.has size placed (λ s o h. open_real P D s o (open_at s o (subst (λ Y. T (Y s o)) next ((opens_is b s o).1 h)))) keeps_b)
+      (done.largest P was.has size placed (λ s o h. open_real P D s o (open_at s o (subst (λ Y. T (Y s o)) next ((opens_is b s o).1 h)))) keeps_b (covers_has P n masks was.has covers) rest_b)
 
   -- where something is open, a supported box is, and so every slot that a sheet names
   placed_at : (s o : ℕ) → T (opens c s o) → Placed P
   placed_at s o t = (open_at s o (settled_in s o t)).1.placed
 
   -- the box is dropped
-  module _ (same : J ≡ K) (fewer : top ≡ t + 1) (back : Rewound k o 1) where
-    dropped : (H : List Plan) → Pending P D H K i → Exploring P D H X m J t o
+  module _ (same : J ≡ K) (alike : B ≡ A) (fewer : top ≡ t + 1) (back : Rewound k o 1) where
+    dropped : (H : List Plan) → Pending P D H K i → Exploring P D H X m J B t o
     dropped H pending =
         let e : suc i ≡ i + 1 = omega arith in
         let f : i ≡ t = omega arith in
         let back-n : Rewound n o 1 = framed_rewound n k o done.framed (omega (arith, was.levels.marks)) back in
-        subst₂ (λ L z. Exploring P D H X m L z o) (sym same) f
+        subst₂ (λ L z. Exploring P D H X m L B z o) (sym same) f (subst (λ M. Exploring P D H X m K M i o) (sym alike)
         (record {
           some = was.some;
           largest = was.largest;
           room = was.room;
           has = has_sheets P n o was.has back-n.sheets;
           inside = λ j h. was.inside j (omega arith);
-          levels = levels_back P X m K (suc i) i 1 n o e was.levels back-n;
+          bases = was.bases;
+          based = λ j h. was.based j (omega arith);
+          levels = levels_back P X m was.bases (suc i) i 1 n o e was.levels back-n;
           pending = pending;
-        })
+        }))
 
     -- slot 0 has no open option left
-    pub turn_dry : (Some c 0 → ⊥) → Exploring P D G X m J t o
+    pub turn_dry : (Some c 0 → ⊥) → Exploring P D G X m J B t o
     turn_dry shut = dropped G (pending_none P D G K i was.pending (λ q mq h.
         let z = (lies_settled P D q mq (K i) (opens c) (largest_c mq.placed) h).at 0 was.some in
         shut (record { option = get_or q 0 0; is = (opens_is c 0 (get_or q 0 0)).0 z })))
 
     -- each slot has one open option
     pub turn_found : Proper n → Some c 0 → length c ≡ 48 → ((s : ℕ) → Two c s → ⊥) → (p : List ℕ) → Laid c p 48
-        → First P D G (take (length P.sizes) p) × Exploring P D (take (length P.sizes) p ∷ G) X m J t o
+        → First P D G (take (length P.sizes) p) × Exploring P D (take (length P.sizes) p ∷ G) X m J B t o
     turn_found proper some long loose p laid =
         let here : T (opens c 0 some.option) = (opens_is c 0 some.option).1 some.is in
         let big = largest_c (placed_at 0 some.option here) in
@@ -133,20 +158,54 @@ module _ (K J : ℕ → Box) (top i t : ℕ) (n k o : Binding) (slots : ℕ) (b 
             let low = (laid.at s lt).lowest (record { option = a.0; is = (opens_is c s a.0).0 a.1 }) in
             subst (λ x. T (opens c s x)) (sym (get_or-take (length P.sizes) p s 0 h)) ((opens_is c s (get_or p s 0)).1 low.is)
 
+  -- the boxes that the pending ones are based on after a split
+  on : ℕ → Box
+  on j = cond (nat_lt j i) (was.bases j) (opens c)
+
+  on_below : (j : ℕ) → j < i → on j ≡ was.bases j
+  unfolding on
+  on_below j h = if_lt j i _ _ h
+
+  on_above : (j : ℕ) → i ≤ j → on j ≡ opens c
+  unfolding on
+  on_above j h = if_not_lt j i _ _ h
+
+  based_rest : LargestIn P (K i) (opens c) → (cut : Split K J A B i (opens c)) → Based P (opens c) (J i) (B i)
+  based_rest big cut = record {
+    inside = λ s q t. ((cut.rest s q).0 t).0;
+    apart = λ s q ne t. (cut.rest s q).1 (t, λ e. ne (subst (Bit (B i)) (sym e.0) cut.lost_rest));
+    backed = backed_largest_in P (K i) (opens c) big;
+  }
+
+  based_first : LargestIn P (K i) (opens c) → (cut : Split K J A B i (opens c)) → Based P (opens c) (J (suc i)) (B (suc i))
+  based_first big cut = record {
+    inside = λ s q t. ((cut.first s q).0 t).0;
+    apart = λ s q ne t. (cut.first s q).1 (t, λ e. ne (subst (Bit (B (suc i))) (sym e.0) cut.lost_first));
+    backed = backed_largest_in P (K i) (opens c) big;
+  }
+
   -- a slot has several
-  pub turn_split : t ≡ top + 1 → Split K J i (opens c) → Noted k o → Exploring P D G X m J t o
+  pub turn_split : t ≡ top + 1 → Split K J A B i (opens c) → Noted k o → Exploring P D G X m J B t o
   turn_split more cut noted =
       let real = open_real P D cut.slot cut.option (open_at cut.slot cut.option (settled_in cut.slot cut.option cut.here)) in
       let big = largest_c (placed_at cut.slot cut.option cut.here) in
       let f : suc (suc i) ≡ t = omega arith in
-      subst (λ z. Exploring P D G X m J z o) f
+      subst (λ z. Exploring P D G X m J B z o) f
       (record {
         some = was.some;
         largest = was.largest;
         room = was.room;
         has = has_sheets P k o (has_sheets P n k was.has done.framed.sheets) noted.sheets;
-        inside = λ j h s q t. let v = new_in K J i (opens c) cut settled_in j h in was.inside v.0 v.1 s q (v.3 s q t);
-        levels = levels_split P X m K J i (opens c) n k o was.levels done.framed (done.keeps P was.has keeps_b) noted cut.below
-            (λ s q t. ((cut.rest s q).0 t).0) (λ s q t. ((cut.first s q).0 t).0);
-        pending = pending_split K J i (opens c) cut settled_in P D G (λ q mq h. lies_settled P D q mq (K i) (opens c) big h) real.0 was.pending;
+        inside = λ j h s q t. let v = new_in K J i (opens c) A B cut settled_in j h in was.inside v.0 v.1 s q (v.3 s q t);
+        bases = on;
+        based = λ j h. ⊎_elim
+            (λ l. ⊎_elim
+            (λ lt. subst₂ (λ Z a. Based P Z (J j) a) (sym (on_below j lt)) (sym (cut.lost_below j lt)) (subst (λ Y. Based P (was.bases j) Y (A j)) (sym (cut.below j lt)) (was.based j (omega arith))))
+            (λ e. subst (λ q. Based P (on q) (J q) (B q)) (sym e) (subst (λ Z. Based P Z (J i) (B i)) (sym (on_above i (omega arith))) (based_rest big cut)))
+            (below_or j i l))
+            (λ e. subst (λ q. Based P (on q) (J q) (B q)) (sym e) (subst (λ Z. Based P Z (J (suc i)) (B (suc i))) (sym (on_above (suc i) (omega arith))) (based_first big cut)))
+            (below_or j (suc i) h);
+        levels = levels_split P X m was.bases on i (opens c) n k o was.levels done.framed (done.keeps P was.has keeps_b) noted on_below
+            (subst (λ Z. Inside Z (opens c)) (sym (on_above i (omega arith))) (λ s q t. t)) (subst (λ Z. Inside Z (opens c)) (sym (on_above (suc i) (omega arith))) (λ s q t. t));
+        pending = pending_split K J i (opens c) A B cut settled_in P D G (λ q mq h. lies_settled P D q mq (K i) (opens c) big h) real.0 was.pending;
       })

@@ -68,7 +68,7 @@ before_at zero (x ∷ p) (y ∷ q) a b f h = inl h
 before_at (suc s) (x ∷ p) (y ∷ q) a b f h = inr (f 0 (omega arith), before_at s p q (omega arith) (omega arith) (λ t k. f (suc t) (omega arith)) h)
 
 -- The uppermost box, settled to C, is split.
-module _ (K J : ℕ → Box) (i : ℕ) (C : Box) (cut : Split K J i C) (sub : Inside C (K i)) where
+module _ (K J : ℕ → Box) (i : ℕ) (C : Box) (A B : ℕ → ℕ) (cut : Split K J A B i C) (sub : Inside C (K i)) where
   rest_in : Inside (J i) C
   rest_in s o t = ((cut.rest s o).0 t).0
 

@@ -5,7 +5,8 @@ use Rattle.subject.specs.Boxes.{Box}
 use Rattle.binder.specs.Meaning.{Binding, Alike}
 use Rattle.settle.specs.Keeping.{Has, Keeps}
 
--- the boxes of an exploration by level: the box X that it began with, and then those that are still to be explored
+-- the boxes of an exploration by level: the box X that it began with, and then those that are still to be explored are
+-- based on
 abbrev pub level : Box → (ℕ → Box) → ℕ → Box
 level X K zero = X
 level X K (suc j) = K j

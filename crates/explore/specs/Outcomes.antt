@@ -25,8 +25,8 @@ Long (Found p) = length p ≡ 48
 
 -- The exploration after a turn. Where no box was left there is no plan left; the first entries of what was found are the
 -- next plan, which is then among those given; and the exploration goes on.
-abbrev pub Turned : Problem → List Decision → List Plan → Box → Binding → Outcome → (ℕ → Box) → ℕ → Binding → Type 0
-Turned P D G X m Empty K top n = NoMore P D G × Exploring P D G X m K top n
-Turned P D G X m Dry K top n = Exploring P D G X m K top n
-Turned P D G X m Split K top n = Exploring P D G X m K top n
-Turned P D G X m (Found p) K top n = First P D G (take (length P.sizes) p) × Exploring P D (take (length P.sizes) p ∷ G) X m K top n
+abbrev pub Turned : Problem → List Decision → List Plan → Box → Binding → Outcome → (ℕ → Box) → (ℕ → ℕ) → ℕ → Binding → Type 0
+Turned P D G X m Empty K A top n = NoMore P D G × Exploring P D G X m K A top n
+Turned P D G X m Dry K A top n = Exploring P D G X m K A top n
+Turned P D G X m Split K A top n = Exploring P D G X m K A top n
+Turned P D G X m (Found p) K A top n = First P D G (take (length P.sizes) p) × Exploring P D (take (length P.sizes) p ∷ G) X m K A top n

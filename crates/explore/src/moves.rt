@@ -4,21 +4,24 @@ ghost use Rattle.subject.specs.Boxes.{Inside};
 ghost use Rattle.boxes.specs.Boxes.{opens, Branching};
 ghost use Rattle.explore.specs.Rewound.{Rewound};
 ghost use Rattle.explore.specs.Split.{Split as SplitAt};
-ghost use Rattle.explore.specs.Stacks.{height, pending, weight_of};
+ghost use Rattle.explore.specs.Stacks.{height, pending, lost_of, weight_of};
 
 use crate::rewind::rewind;
 use crate::stack::Stack;
 use binder::binders::Binder;
 use boxes::OptionBox;
+use boxes::slots::slot_alone;
 
 impl Stack {
-    // One box is to be explored.
+    // One box is to be explored. Its sheets hold what is open.
     pub fn new(slate: OptionBox) -> Stack
         ensures top { height result ≡ 1 }
         ensures first { pending result 0 ≡ opens slate.cells }
+        ensures lost { lost_of result 0 ≡ 0 }
     {
         Stack {
             boxes: [slate; 49],
+            lost: [0; 49],
             top: 1,
         }
     }
@@ -35,6 +38,7 @@ impl Stack {
         requires { 0 < height self.old }
         ensures top { height self.old ≡ height self.new + 1 }
         ensures same { pending self.new ≡ pending self.old }
+        ensures lost { lost_of self.new ≡ lost_of self.old }
         ensures undone { Rewound (B.Binder.meaning binder.old) (B.Binder.meaning binder.new) 1 }
     {
         self.top -= 1;
@@ -48,7 +52,7 @@ impl Stack {
         requires inside { Inside (opens slate.now.cells) (pending self.old (height self.old - 1)) }
         requires loose { Branching slate.now.cells slot }
         ensures top { height self.new ≡ height self.old + 1 }
-        ensures split { SplitAt (pending self.old) (pending self.new) (height self.old - 1) (opens slate.now.cells) }
+        ensures split { SplitAt (pending self.old) (pending self.new) (lost_of self.old) (lost_of self.new) (height self.old - 1) (opens slate.now.cells) }
         ensures less { weight_of self.new < weight_of self.old }
     {
         let option = slate.lowest(slot).unwrap();
@@ -56,8 +60,11 @@ impl Stack {
         rest.close(slot, option);
         let mut part = *slate;
         part.fix(slot, option);
+        let lost = slot_alone(slot);
         self.boxes[self.top - 1] = rest;
         self.boxes[self.top] = part;
+        self.lost[self.top - 1] = lost;
+        self.lost[self.top] = lost;
         self.top += 1;
     }
 }

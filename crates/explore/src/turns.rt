@@ -9,22 +9,24 @@ ghost use Rattle.explore.specs.Levels.{Returned};
 ghost use Rattle.explore.specs.Outcomes.{IfEmpty, Long, Turned};
 ghost use Rattle.explore.specs.Rewound.{Rewound};
 ghost use Rattle.explore.specs.Exploring.{Exploring};
-ghost use Rattle.explore.specs.Stacks.{height, pending, weight_of};
+ghost use Rattle.explore.specs.Stacks.{height, pending, lost_of, weight_of};
+ghost use Rattle.settle.specs.Reach.{masks_of, Covers};
 
 use crate::lay::lay;
 use crate::outcome::Outcome;
 use crate::rewind::rewind;
 use crate::stack::Stack;
 use binder::binders::Binder;
+use settle::reach::Reach;
 use settle::settle;
 
 impl Stack {
     // Settles the next box, and then drops it or splits it in two. The binder has a mark below each box, which
     // is undone as the box is dropped, so that a box is settled from what its level kept.
-    pub fn turn<B: Binder>(&mut self, binder: &mut B, slots: usize) -> Outcome
-        ensures law { (P : Problem) (D : List Decision) (G : List Plan) (X : Box) (m : Binding) → length P.sizes ≡ slots
-            → Exploring P D G X m (pending self.old) (height self.old) (B.Binder.meaning binder.old)
-            → Turned P D G X m result (pending self.new) (height self.new) (B.Binder.meaning binder.new) }
+    pub fn turn<B: Binder>(&mut self, binder: &mut B, reach: &Reach, slots: usize) -> Outcome
+        ensures law { (P : Problem) (D : List Decision) (G : List Plan) (X : Box) (m : Binding) → length P.sizes ≡ slots → Covers P.sheets P.scope (masks_of reach.now)
+            → Exploring P D G X m (pending self.old) (lost_of self.old) (height self.old) (B.Binder.meaning binder.old)
+            → Turned P D G X m result (pending self.new) (lost_of self.new) (height self.new) (B.Binder.meaning binder.new) }
         ensures less { IfEmpty result
             ((height self.old ≡ 0) × (self.new ≡ self.old) × (binder.new ≡ binder.old))
             (weight_of self.new < weight_of self.old) }
@@ -33,7 +35,8 @@ impl Stack {
         let Some(mut slate) = self.next() else {
             return Outcome::Empty;
         };
-        settle(binder, slots, &mut slate);
+        let lost = self.lost[self.top - 1];
+        settle(binder, reach, slots, lost, &mut slate);
         if !slate.has_open(0) {
             self.drop_next(binder);
             return Outcome::Dry;
@@ -51,7 +54,7 @@ impl Stack {
     // where the exploration began.
     pub fn leave<B: Binder>(&self, binder: &mut B)
         ensures law { (P : Problem) (D : List Decision) (G : List Plan) (X : Box) (m : Binding)
-            → Exploring P D G X m (pending self.now) (height self.now) (B.Binder.meaning binder.old)
+            → Exploring P D G X m (pending self.now) (lost_of self.now) (height self.now) (B.Binder.meaning binder.old)
             → Returned P X m (B.Binder.meaning binder.new) }
         ensures rewound { Rewound (B.Binder.meaning binder.old) (B.Binder.meaning binder.new) (height self.now) }
     {

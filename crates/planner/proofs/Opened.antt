@@ -19,11 +19,13 @@ use Rattle.subject.specs.Problem.{Problem, Real, Placed}
 use Rattle.subject.specs.Boxes.{Box}
 use Rattle.subject.specs.Decisions.{Largest}
 use Rattle.boxes.specs.Boxes as Cells
-use Rattle.boxes.specs.Boxes.{opens, Filled}
+use Rattle.subject.proofs.Bits.{ones_bit}
+use Rattle.boxes.specs.Boxes.{opens, Bit, Filled}
 use Rattle.boxes.proofs.Counting.{opens_is}
 use Rattle.binder.specs.declared.binders.Binder.{Ghosts}
 use Rattle.binder.specs.Meaning.{Binding, Cleared}
 use Rattle.settle.specs.Keeping.{Has, Keeps}
+use Rattle.settle.specs.Reach.{masks_of, Covers, Resting}
 use Rattle.settle.specs.Settled.{Settled}
 use Rattle.settle.proofs.Keeping.{keeps_same, has_framed}
 use Rattle.settle.proofs.Tight.{framed_none}
@@ -116,6 +118,11 @@ first_largest : (P : Problem) (X Y : Box) → ((s o : ℕ) → Real P s o → T 
 first_largest P X Y all done t q =
     (λ h. let y = (done t q).0 h in (y.0, y.1, (λ u r k. tt), y.3), λ w. (done t q).1 (w.0, w.1, (λ u r k. all u r (w.1.real u r k)), w.3))
 
+-- the set of all slots has each
+pub all_bits : (t : ℕ) → t < 48 → Bit 18446744073709551615 t
+unfolding Bit
+all_bits t h = ones_bit 64 t (omega arith)
+
 module _ (m : Binding) (n : ℕ) (sizes : List ℕ) (long : length sizes ≡ n) (few : n ≤ 48) where
   module _ (P : Problem) (e : P.sizes ≡ sizes) (has : Has P m) where
     length_of : length P.sizes ≡ n
@@ -149,12 +156,13 @@ module _ (m : Binding) (n : ℕ) (sizes : List ℕ) (long : length sizes ≡ n) 
           subst (λ x. get_or x i 0 < n) (sym (has.scope q)) (omega (arith, z, length_of));
     }
 
-  pub started : (k : Binding) (b c : List ℕ) → AllBelow m n m.count → Filled sizes b → Settled m k n b c → Started m k sizes c
-  started k b c below filled done = record {
+  pub started : (k : Binding) (masks : List ℕ) (lost : ℕ) (b c : List ℕ) → AllBelow m n m.count → Filled sizes b → Covers m.count m.scope masks → Resting m masks b lost → Settled m k masks lost n b c
+      → Started m k sizes c
+  started k masks lost b c below filled covers rest done = record {
     framed = done.framed;
     largest = λ small P e has keeps.
         first_largest P (opens b) (opens c) (all_of P e has b small filled)
-        (done.largest P has (length_of P e has) (placed_of P e has below) (real_of P e has b filled) (keeps (opens b)));
+        (done.largest P has (length_of P e has) (placed_of P e has below) (real_of P e has b filled) (keeps (opens b)) covers rest);
     keeps = λ P e has keeps. done.keeps P has (keeps (opens b));
   }
 
@@ -169,8 +177,8 @@ module _ (m : Binding) (n : ℕ) (sizes : List ℕ) (long : length sizes ≡ n) 
 -- ---- opening: m0 is the binder that was passed, m the same with all marks undone
 
 pub opened_at_lem : {B : Type 0} {bound : Ghosts B} (meaning : B → Binding) (p : Planner B bound) (m0 m : Binding) (sizes : List ℕ) → Cleared m0 m → Started m (meaning p.binder) (take p.slots.count p.slots.sizes) p.slate.cells
-    → take p.slots.count p.slots.sizes ≡ sizes → p.depth ≡ 0 → ((s : ℕ) → get_or sizes s 0 ≤ 32) → 0 < length sizes → After meaning (posed sizes m0) [] p
-opened_at_lem meaning p m0 m sizes cleared first es d small some =
+    → take p.slots.count p.slots.sizes ≡ sizes → Covers m.count m.scope (masks_of p.reach) → p.depth ≡ 0 → ((s : ℕ) → get_or sizes s 0 ≤ 32) → 0 < length sizes → After meaning (posed sizes m0) [] p
+opened_at_lem meaning p m0 m sizes cleared first es covers d small some =
     let started : Started m (meaning p.binder) sizes p.slate.cells = subst (λ x. Started m (meaning p.binder) x p.slate.cells) es first in
     let P : Problem = posed sizes m0 in
     let k = meaning p.binder in
@@ -183,6 +191,7 @@ opened_at_lem meaning p m0 m sizes cleared first es d small some =
       standing = refl;
       stands = record {
         sizes = sym es;
+        covers = record { each = λ i j hi hj. subst (λ x. Bit (get_or (masks_of p.reach) i 0) (get_or x j 0)) (cleared.sheets.scope i) (covers.each i j (subst (λ x. i < x) (sym cleared.sheets.count) hi) (subst (λ x. j < length x) (sym (cleared.sheets.scope i)) hj)) };
         some = some;
         has = has_framed P m k has started.framed;
         largest = started.largest small P refl has all;

@@ -20,9 +20,11 @@ use Rattle.boxes.proofs.Bits.{open_same}
 use Rattle.boxes.proofs.Counting.{opens_is}
 use Rattle.binder.specs.declared.binders.Binder.{Ghosts}
 use Rattle.binder.specs.Meaning.{Binding, Alike, Noted, Undone}
+use Rattle.boxes.specs.Slots.{Lone}
 use Rattle.settle.specs.Keeping.{Has, Keeps}
+use Rattle.settle.specs.Reach.{masks_of, Covers, Resting}
 use Rattle.settle.specs.Settled.{Settled}
-use Rattle.settle.proofs.Keeping.{keeps_less, keeps_same, has_framed}
+use Rattle.settle.proofs.Keeping.{keeps_less, keeps_same, has_framed, covers_has, resting_based, backed_largest}
 use Rattle.planner.specs.States.{Found, Shut, cells_at, Saved, Stands, After}
 use Rattle.planner.specs.declared.state.Planner.{Planner}
 use Rattle.planner.proofs.Tables.{cells_same, cells_other}
@@ -151,7 +153,8 @@ module _ {B : Type 0} {bound : Ghosts B} (meaning : B → Binding) (P : Problem)
 
   -- One more decision, and the box settled: m is the binder before, k the one after.
   module _ (D : List Decision) (d : Decision) (p : Planner B bound) (st : Stands meaning P D p) (m k : Binding) (b c : List ℕ) (has : Has P m) (keeps : Keeps P (opens p.slate.cells) m.kept)
-      (placed : Placed P) (cut : (t q : ℕ) → T (opens b t q) ↔ (T (opens p.slate.cells t q) × (Forbids d t q → ⊥))) (done : Settled m k p.slots.count b c) where
+      (placed : Placed P) (cut : (t q : ℕ) → T (opens b t q) ↔ (T (opens p.slate.cells t q) × (Forbids d t q → ⊥))) (masks : List ℕ) (lost : ℕ) (covers : Covers P.sheets P.scope masks) (off : (t o : ℕ) → (Cells.Bit lost t → ⊥) → T (opens p.slate.cells t o) → T (opens b t o))
+      (done : Settled m k masks lost p.slots.count b c) where
     less : Inside (opens b) (opens p.slate.cells)
     less t q z = ((cut t q).0 z).0
 
@@ -161,41 +164,48 @@ module _ {B : Type 0} {bound : Ghosts B} (meaning : B → Binding) (P : Problem)
     kept : Keeps P (opens b) m.kept
     kept = keeps_less P _ _ _ less keeps
 
+    rest : Resting m masks b lost
+    rest = resting_based P m masks b (opens p.slate.cells) lost has keeps (covers_has P m masks has covers) (record { inside = less; apart = off; backed = backed_largest P D (opens p.slate.cells) st.largest })
+
     decided_largest : Largest P (d ∷ D) (opens c)
-    decided_largest = decide_largest P D d (opens p.slate.cells) (opens b) (opens c) st.largest cut (done.largest P has (slots_are D p st) placed real kept)
+    decided_largest = decide_largest P D d (opens p.slate.cells) (opens b) (opens c) st.largest cut (done.largest P has (slots_are D p st) placed real kept (covers_has P m masks has covers) rest)
 
     decided_keeps : Keeps P (opens c) k.kept
     decided_keeps = done.keeps P has kept
 
   -- What strike does, where it is not refused.
-  pub struck_done : (L : Log) (p q : Planner B bound) (s o n : ℕ) (b : List ℕ) → q.slots ≡ p.slots → q.saved ≡ p.saved → q.depth ≡ p.depth
-      → Found p.slots p.slate.cells s o → Closed p.slate.cells b s o → Settled (meaning p.binder) (meaning q.binder) p.slots.count b q.slate.cells
+  pub struck_done : (L : Log) (p q : Planner B bound) (s o n lost : ℕ) (b : List ℕ) → q.slots ≡ p.slots → q.reach ≡ p.reach → q.saved ≡ p.saved → q.depth ≡ p.depth
+      → Found p.slots p.slate.cells s o → Closed p.slate.cells b s o → Lone lost s → Settled (meaning p.binder) (meaning q.binder) (masks_of p.reach) lost p.slots.count b q.slate.cells
       → n ≡ opened (opens q.slate.cells) → After meaning P L p → After meaning P (record { call = strike s o; answer = count n } ∷ L) q
-  struck_done L p q s o n b es ev ed found shut done e a =
+  struck_done L p q s o n lost b es er ev ed found shut lone done e a =
       let D = a.decisions in
       let st = a.stands in
       let m = meaning p.binder in
       let k = meaning q.binder in
       let opens : Open P D s o = (open_is D p s o st).0 found.is in
       let cut = closed_cut p.slate.cells b s o shut in
-      let big = decided_largest D (struck s o) p st m k b q.slate.cells st.has st.keeps opens.1.placed cut done in
+      let low : s < 48 = omega (arith, found.slot, p.slots.few) in
+      let big = decided_largest D (struck s o) p st m k b q.slate.cells st.has st.keeps opens.1.placed cut (masks_of p.reach) lost st.covers
+      (λ t r ne z. (cut t r).1 (z, λ f. ne (subst (Cells.Bit lost) (sym f.0) (lone.here low)))) done in
       answered L p q (strike s o) (count n) a refl refl (strike_done opens (_, big, e)) (λ i r. free_strike P D s o i opens r)
       (record {
         sizes = st.sizes ∙ ap (λ w. take w.count w.sizes) (sym es);
+        covers = subst (λ x. Covers P.sheets P.scope (masks_of x)) (sym er) st.covers;
         some = st.some;
         has = has_framed P m k st.has done.framed;
         largest = big;
-        keeps = decided_keeps D (struck s o) p st m k b q.slate.cells st.has st.keeps opens.1.placed cut done;
+        keeps = decided_keeps D (struck s o) p st m k b q.slate.cells st.has st.keeps opens.1.placed cut (masks_of p.reach) lost st.covers
+            (λ t r ne z. (cut t r).1 (z, λ f. ne (subst (Cells.Bit lost) (sym f.0) (lone.here low)))) done;
         marks = done.framed.marks ∙ st.marks ∙ sym ed;
         saved = subst₂ (λ x y. Saved P D x k.marked y) (sym ev) (sym ed) (saved_marked P D p.saved m.marked k.marked p.depth (λ i s' lt. done.framed.marked i s') st.saved);
       })
 
   -- What try does, where it is not refused: m is the binder once marked.
-  pub tried_done : (L : Log) (p q : Planner B bound) (s o n : ℕ) (b : List ℕ) (m : Binding) → q.slots ≡ p.slots → q.saved ≡ set p.saved p.depth p.slate → q.depth ≡ p.depth + 1
+  pub tried_done : (L : Log) (p q : Planner B bound) (s o n lost : ℕ) (b : List ℕ) (m : Binding) → q.slots ≡ p.slots → q.reach ≡ p.reach → q.saved ≡ set p.saved p.depth p.slate → q.depth ≡ p.depth + 1
       → p.depth < 16 → Found p.slots p.slate.cells s o → Fixed p.slate.cells b s o → Noted (meaning p.binder) m
-      → Settled m (meaning q.binder) p.slots.count b q.slate.cells → n ≡ opened (opens q.slate.cells)
+      → Lone lost s → Settled m (meaning q.binder) (masks_of p.reach) lost p.slots.count b q.slate.cells → n ≡ opened (opens q.slate.cells)
       → After meaning P L p → After meaning P (record { call = try s o; answer = count n } ∷ L) q
-  tried_done L p q s o n b m es ev ed deep found fixed noted done e a =
+  tried_done L p q s o n lost b m es er ev ed deep found fixed noted lone done e a =
       let D = a.decisions in
       let st = a.stands in
       let m0 = meaning p.binder in
@@ -204,7 +214,9 @@ module _ {B : Type 0} {bound : Ghosts B} (meaning : B → Binding) (P : Problem)
       let cut = fixed_cut p.slate.cells b s o fixed in
       let has : Has P m = record { sheets = noted.sheets.count ∙ st.has.sheets; scope = λ i. noted.sheets.scope i ∙ st.has.scope i } in
       let keeps : Keeps P (opens p.slate.cells) m.kept = keeps_same P _ _ _ noted.kept st.keeps in
-      let big = decided_largest D (tried s o) p st m k b q.slate.cells has keeps shows.1.placed cut done in
+      let low : s < 48 = omega (arith, found.slot, p.slots.few) in
+      let big = decided_largest D (tried s o) p st m k b q.slate.cells has keeps shows.1.placed cut (masks_of p.reach) lost st.covers
+      (λ t r ne z. (cut t r).1 (z, λ f. ne (subst (Cells.Bit lost) (sym f.0) (lone.here low)))) done in
       let few : tries D < 16 = omega (arith, depth_is D p st) in
       let table : List OptionBox = set p.saved p.depth p.slate in
       let here : cells_at table p.depth ≡ p.slate.cells = cells_same p.saved p.depth p.slate (let y = p.long in omega arith) in
@@ -220,19 +232,21 @@ module _ {B : Type 0} {bound : Ghosts B} (meaning : B → Binding) (P : Problem)
       answered L p q (try s o) (count n) a refl refl (try_done shows few (_, big, e)) (λ i r. free_try P D s o i shows few r)
       (record {
         sizes = st.sizes ∙ ap (λ w. take w.count w.sizes) (sym es);
+        covers = subst (λ x. Covers P.sheets P.scope (masks_of x)) (sym er) st.covers;
         some = st.some;
         has = has_framed P m k has done.framed;
         largest = big;
-        keeps = decided_keeps D (tried s o) p st m k b q.slate.cells has keeps shows.1.placed cut done;
+        keeps = decided_keeps D (tried s o) p st m k b q.slate.cells has keeps shows.1.placed cut (masks_of p.reach) lost st.covers
+            (λ t r ne z. (cut t r).1 (z, λ f. ne (subst (Cells.Bit lost) (sym f.0) (lone.here low)))) done;
         marks = done.framed.marks ∙ noted.marks ∙ ap (λ x. x + 1) st.marks ∙ sym ed;
         saved = subst₂ (λ x y. Saved P (tried s o ∷ D) x k.marked y) (sym ev) (sym ed) saves;
       })
 
   -- What back does, where it is not refused.
-  pub backed : (L : Log) (p q : Planner B bound) (n e : ℕ) → q.slots ≡ p.slots → q.saved ≡ p.saved → q.depth ≡ e → p.depth ≡ suc e → q.slate.cells ≡ cells_at p.saved e
+  pub backed : (L : Log) (p q : Planner B bound) (n e : ℕ) → q.slots ≡ p.slots → q.reach ≡ p.reach → q.saved ≡ p.saved → q.depth ≡ e → p.depth ≡ suc e → q.slate.cells ≡ cells_at p.saved e
       → Undone (meaning p.binder) (meaning q.binder) → n ≡ opened (opens q.slate.cells)
       → After meaning P L p → After meaning P (record { call = back; answer = count n } ∷ L) q
-  backed L p q n e es ev ed pd ec undid c a =
+  backed L p q n e es er ev ed pd ec undid c a =
       let D = a.decisions in
       let st = a.stands in
       let m = meaning p.binder in
@@ -246,6 +260,7 @@ module _ {B : Type 0} {bound : Ghosts B} (meaning : B → Binding) (P : Problem)
       answered L p q back (count n) a refl refl (back_done some (_, big, c)) (λ i r. free_back P D i some r)
       (record {
         sizes = st.sizes ∙ ap (λ w. take w.count w.sizes) (sym es);
+        covers = subst (λ x. Covers P.sheets P.scope (masks_of x)) (sym er) st.covers;
         some = st.some;
         has = record { sheets = undid.sheets.count ∙ st.has.sheets; scope = λ i. undid.sheets.scope i ∙ st.has.scope i };
         largest = big;

@@ -12,6 +12,7 @@ use Rattle.boxes.specs.Boxes.{Open, opens}
 use Rattle.binder.specs.declared.binders.Binder.{Ghosts}
 use Rattle.binder.specs.Meaning.{Binding}
 use Rattle.settle.specs.Keeping.{Has, Keeps}
+use Rattle.settle.specs.Reach.{masks_of, Covers}
 use Rattle.planner.specs.declared.state.Slots.{Slots}
 use Rattle.planner.specs.declared.state.Planner.{Planner}
 
@@ -52,6 +53,7 @@ Saved P (struck s o ∷ D) saved marked d = Saved P D saved marked d
 -- The planner is as the decisions say. What its binder means is given by `meaning`.
 pub record Stands {B : Type 0} {bound : Ghosts B} (meaning : B → Binding) (P : Problem) (D : List Decision) (p : Planner B bound) : Type 0 where
   pub sizes : P.sizes ≡ take p.slots.count p.slots.sizes
+  pub covers : Covers P.sheets P.scope (masks_of p.reach)
   pub some : 0 < length P.sizes
   pub has : Has P (meaning p.binder)
   pub largest : Largest P D (opens p.slate.cells)

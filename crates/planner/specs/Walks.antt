@@ -11,7 +11,8 @@ use Rattle.boxes.specs.Boxes.{opens}
 use Rattle.binder.specs.declared.binders.Binder.{Ghosts}
 use Rattle.binder.specs.Meaning.{Binding}
 use Rattle.explore.specs.Exploring.{Exploring}
-use Rattle.explore.specs.Stacks.{height, pending}
+use Rattle.settle.specs.Reach.{masks_of, Covers}
+use Rattle.explore.specs.Stacks.{height, pending, lost_of}
 use Rattle.planner.specs.States.{Saved}
 use Rattle.planner.specs.declared.state.Walk.{Walk}
 use Rattle.planner.specs.declared.step.State.{State}
@@ -27,10 +28,11 @@ At Spent given top = top ≡ 0
 -- The walk has given the plans G since it began on a planner as the decisions D say, whose binder meant `from` then.
 pub record Goes {B : Type 0} {bound : Ghosts B} (meaning : B → Binding) (P : Problem) (D : List Decision) (G : List Plan) (w : Walk B bound) : Type 0 where
   pub sizes : P.sizes ≡ take w.planner.slots.count w.planner.slots.sizes
+  pub covers : Covers P.sheets P.scope (masks_of w.planner.reach)
   pub from : Binding
   pub marks : from.marks ≡ w.planner.depth
   pub saved : Saved P D w.planner.saved from.marked w.planner.depth
-  pub exploring : Exploring P D G (opens w.planner.slate.cells) from (pending w.stack) (height w.stack) (meaning w.planner.binder)
+  pub exploring : Exploring P D G (opens w.planner.slate.cells) from (pending w.stack) (lost_of w.stack) (height w.stack) (meaning w.planner.binder)
   pub at : At w.state G (height w.stack)
 
 -- The walk after the calls of a log: the log is lawful, and the walk is as its calls and plans say.

@@ -6,6 +6,7 @@ ghost use Rattle.planner.specs.States.{Carries, Found, Shut, Counted};
 use crate::marks::{restore, save};
 use crate::state::Planner;
 use binder::binders::Binder;
+use boxes::slots::slot_alone;
 use settle::settle;
 use subject::refusal::Refusal;
 
@@ -46,7 +47,13 @@ impl<B: Binder> Planner<B> {
         self.saved[self.depth] = slate;
         self.depth += 1;
         self.slate.fix(slot, option);
-        settle(&mut self.binder, self.slots.count, &mut self.slate);
+        settle(
+            &mut self.binder,
+            &self.reach,
+            self.slots.count,
+            slot_alone(slot),
+            &mut self.slate,
+        );
         let left = self.slate.count();
         Ok(left)
     }
@@ -58,7 +65,13 @@ impl<B: Binder> Planner<B> {
     {
         let option = self.open_option(slot, option)?;
         self.slate.close(slot, option);
-        settle(&mut self.binder, self.slots.count, &mut self.slate);
+        settle(
+            &mut self.binder,
+            &self.reach,
+            self.slots.count,
+            slot_alone(slot),
+            &mut self.slate,
+        );
         Ok(self.slate.count())
     }
 

@@ -1,13 +1,16 @@
 // Opens a planner.
 ghost use Rattle.std.specs.Prelude.{◌≡◌, [], length, take, Decides};
 ghost use Rattle.planner.specs.Opening.{slots_in, posed, Below, AllBelow, Started};
+ghost use Rattle.settle.specs.Reach.{masks_of, Covers};
 ghost use Rattle.planner.specs.States.{After};
 
 use crate::state::{Planner, Slots};
 use binder::binders::Binder;
 use binder::clear::undo_all;
 use boxes::OptionBox;
+use boxes::slots::ALL_SLOTS;
 use catalogue::checked::Catalogue;
+use settle::reach::Reach;
 use settle::settle;
 use std::array;
 
@@ -47,14 +50,15 @@ fn all_below<B: Binder>(binder: &B, slots: usize) -> bool
 
 // The first box: all that the sheets leave of every option of the slots; nothing where a sheet names a slot
 // beyond the last.
-fn first_box<B: Binder>(binder: &mut B, slots: &Slots) -> OptionBox
+fn first_box<B: Binder>(binder: &mut B, reach: &Reach, slots: &Slots) -> OptionBox
+    requires { Covers (B.Binder.meaning binder.old).count (B.Binder.meaning binder.old).scope (masks_of reach.now) }
     ensures { Started (B.Binder.meaning binder.old) (B.Binder.meaning binder.new) (take slots.now.count slots.now.sizes) result.cells }
 {
     if !all_below(binder, slots.count) {
         return OptionBox::none();
     }
     let mut slate = OptionBox::full(&slots.sizes[..slots.count]);
-    settle(binder, slots.count, &mut slate);
+    settle(binder, reach, slots.count, ALL_SLOTS, &mut slate);
     slate
 }
 
@@ -66,10 +70,12 @@ impl<B: Binder> Planner<B> {
     {
         let slots = slots_of(catalogue);
         undo_all(&mut binder);
-        let slate = first_box(&mut binder, &slots);
+        let reach = Reach::of(&binder);
+        let slate = first_box(&mut binder, &reach, &slots);
         Planner {
             binder,
             slots,
+            reach,
             slate,
             saved: [slate; 16],
             depth: 0,

@@ -5,6 +5,7 @@ use crate::step::State;
 use binder::binders::Binder;
 use boxes::OptionBox;
 use explore::stack::Stack;
+use settle::reach::Reach;
 
 // How many slots there are, and how many options each has. The sizes stand in a table that is as long as there can be
 // slots. It is fixed memory: the library takes none from a heap, and an `ArrayVec` is not `Copy`.
@@ -17,7 +18,8 @@ pub struct Slots {
     ghost long: { length sizes ≡ 48 },
 }
 
-// The box that is open now, and the box before each standing try. The binder has a mark for each of those.
+// The box that is open now, and the box before each standing try. The binder has a mark for each of those. Its sheets hold
+// what is open, and `reach` says which of them name a slot, so that after a decision no others are asked.
 //
 //   saved:  [ box before try 0 | box before try 1 | .. ]     slate: the box after the newest decision
 //                                      depth - 1 ^
@@ -28,6 +30,7 @@ pub struct Slots {
 pub struct Planner<B: Binder> {
     pub(crate) binder: B,
     pub(crate) slots: Slots,
+    pub(crate) reach: Reach,
     pub(crate) slate: OptionBox,
     pub(crate) saved: [OptionBox; 16],
     pub(crate) depth: usize,

@@ -58,7 +58,9 @@ impl<B: Binder> Walk<B> {
             return Err(Refusal::ShortMemory);
         }
         'turns: loop {
-            let outcome = self.stack.turn(&mut self.planner.binder, count);
+            let outcome = self
+                .stack
+                .turn(&mut self.planner.binder, &self.planner.reach, count);
             // The walk's state and the outcome are matched together, and the state is changed in place: a rule of the
             // project names this form.
             match (self.state, outcome) {

@@ -1,15 +1,18 @@
 -- From showings to the largest supported box of every problem that the binder serves. Assumes nothing.
 use Rattle.std.proofs.Common.{◌≡◌, ℕ, ◌<◌, Bool, T, List, length, get_or, sym, ap, ◌∙◌, subst}
 use Rattle.subject.specs.Problem.{Problem, Real, Placed}
-use Rattle.subject.specs.Boxes.{Box, Inside, Fits, Supported}
+use Rattle.subject.specs.Boxes.{Box, Inside, Fits, Supported, LargestIn}
 use Rattle.subject.proofs.Largest.{Left, all_held}
 use Rattle.boxes.specs.Boxes as Cells
-use Rattle.boxes.specs.Boxes.{Open, opens, Within}
+use Rattle.subject.specs.Decisions.{Decision, Largest}
+use Rattle.boxes.specs.Boxes.{Open, opens, Within, Bit}
+use Rattle.boxes.specs.Slots.{Apart}
 use Rattle.boxes.proofs.Counting.{opens_is}
-use Rattle.binder.specs.Meaning.{Binding, Held, Alike}
-use Rattle.settle.specs.Keeping.{Has, Keeps, Framed}
-use Rattle.settle.specs.Settled.{Settled, Upheld, Tight, Passed, Alive}
-use Rattle.settle.proofs.Tight.{tight_trans, held_same}
+use Rattle.binder.specs.Meaning.{Binding, Proper, Held, Alike}
+use Rattle.settle.specs.Keeping.{Has, Keeps, Framed, Backed, Based}
+use Rattle.settle.specs.Reach.{Covers, Resting}
+use Rattle.settle.specs.Settled.{Settled, Upheld, Tight, Alive}
+use Rattle.settle.proofs.Tight.{resting_all}
 
 pub keeps_less : (P : Problem) (X Y : Box) (k : ℕ → List ℕ → Bool) → Inside Y X → Keeps P X k → Keeps P Y k
 keeps_less P X Y k f h = record { ruled = h.ruled; fitting = λ s l a t. h.fitting s l a (t.0, λ i lt. f _ _ (t.1 i lt)) }
@@ -68,11 +71,11 @@ module _ (m k : Binding) (n : ℕ) (b c : List ℕ) (done : Tight m k b c) where
     }
 
   -- a slot has no open option left: z opens nothing
-  pub settled_dry : (z : List ℕ) → (Alive c n → ⊥) → ((s o : ℕ) → Open z s o → ⊥) → Settled m k n b z
-  settled_dry z dry shut = record {
+  pub settled_dry : (masks : List ℕ) (lost : ℕ) (z : List ℕ) → (Alive c n → ⊥) → ((s o : ℕ) → Open z s o → ⊥) → Settled m k masks lost n b z
+  settled_dry masks lost z dry shut = record {
     framed = done.framed;
     less = λ s o h. absurd (shut s o h);
-    largest = λ P has long placed real keeps s o. (
+    largest = λ P has long placed real keeps covers rest s o. (
       λ t. absurd (shut s o ((opens_is z s o).0 t)),
       λ w. absurd (dry (record {
         each = λ s' h.
@@ -83,15 +86,64 @@ module _ (m k : Binding) (n : ℕ) (b c : List ℕ) (done : Tight m k b c) where
     keeps = λ P has keeps. keeps_less P (opens c) (opens z) k.kept (inside_cells c z (λ s o h. absurd (shut s o h))) (kept_on P has keeps);
   }
 
--- a round that closed nothing
-pub settled_same : (m n k : Binding) (slots : ℕ) (a c e : List ℕ) → Tight m n a c → Passed n k c e n.count → e ≡ c → Alive e slots → Settled m k slots a e
-settled_same m n k slots a c e one passed same alive =
-    let all = tight_trans m n a c one k e passed.tight in
+-- a round in which nothing changed
+pub settled_same : (m k : Binding) (masks : List ℕ) (lost slots : ℕ) (a e : List ℕ) → Tight m k a e → (Covers m.count m.scope masks → Resting m masks a lost → Resting k masks e 0) → Alive e slots
+    → Settled m k masks lost slots a e
+settled_same m k masks lost slots a e all rests alive =
     record {
       framed = all.framed;
       less = all.within;
-      largest = λ P has long placed real keeps.
+      largest = λ P has long placed real keeps covers rest.
           all_held P (opens a) (opens e) (left m k slots a e all P has keeps)
-          (supported m k slots a e all P has keeps (held_same m n a c one k e passed same) long placed real alive);
+          (supported m k slots a e all P has keeps (resting_all m k masks a e all (rests covers rest)) long placed real alive);
       keeps = kept_on m k slots a e all;
     }
+
+-- ---- sheets that need not be asked
+
+-- the largest supported box is backed
+pub backed_largest : (P : Problem) (D : List Decision) (X : Box) → Largest P D X → Backed P X
+backed_largest P D X big s o k i t nm =
+    let y = (big s o).0 t in
+    let h = y.1.held s o k i y.3 nm in
+    (h.0, h.1, (h.2.0, λ j lt. (big _ _).1 (y.0, y.1, y.2, h.2.1 j lt)), h.3)
+
+pub backed_largest_in : (P : Problem) (X Y : Box) → LargestIn P X Y → Backed P Y
+backed_largest_in P X Y big s o k i t nm =
+    let y = (big s o).0 t in
+    let h = y.1.held s o k i y.3 nm in
+    (h.0, h.1, (h.2.0, λ j lt. (big _ _).1 (y.0, y.1, y.2, h.2.1 j lt)), h.3)
+
+pub based_same : (P : Problem) (X : Box) (set : ℕ) → Backed P X → Based P X X set
+based_same P X set backed = record { inside = λ s o t. t; apart = λ s o ne t. t; backed = backed }
+
+pub covers_has : (P : Problem) (m : Binding) (masks : List ℕ) → Has P m → Covers P.sheets P.scope masks → Covers m.count m.scope masks
+covers_has P m masks has c = record {
+  each = λ k p hk hp.
+      let e = has.scope k in
+      subst (λ x. Bit (get_or masks k 0) (get_or x p 0)) (sym e) (c.each k p (subst (λ x. k < x) has.sheets hk) (subst (λ x. p < length x) e hp));
+}
+
+-- Sheets that name no slot of the set hold what is open, since they did in the box that it is based on.
+pub resting_based : (P : Problem) (m : Binding) (masks b : List ℕ) (Z : Box) (set : ℕ) → Has P m → Keeps P Z m.kept → Covers m.count m.scope masks → Based P Z (opens b) set
+    → Resting m masks b set
+unfolding Apart
+resting_based P m masks b Z set has keeps covers base = record {
+  held = λ s p o hs hp apart h.
+      let e = has.scope s in
+      let t : ℕ = get_or (m.scope s) p 0 in
+      let z : T (Z t o) = base.inside t o ((opens_is b t o).1 h) in
+      let w = base.backed t o s p z (subst (λ x. s < x) has.sheets hs, subst (λ x. p < length x) e hp, ap (λ x. get_or x p 0) (sym e)) in
+      let fits : Fits Z (m.scope s) w.0 = subst (λ x. Fits Z x w.0) (sym e) w.2 in
+      record {
+        list = w.0;
+        keeps = keeps.fitting s w.0 w.1 w.2;
+        fits = record { long = fits.0; each = λ q hq. (opens_is b _ _).0 (base.apart _ _ (λ x. apart _ (covers.each s q hs hq) x) (fits.1 q hq)) };
+        holds = w.3;
+      };
+}
+
+-- where every slot is lost, every sheet is asked
+pub resting_none : (m : Binding) (masks b : List ℕ) (set : ℕ) → ((t : ℕ) → t < 48 → Bit set t) → Proper m → Covers m.count m.scope masks → Resting m masks b set
+unfolding Apart
+resting_none m masks b set all proper covers = record { held = λ s p o hs hp apart h. absurd (apart _ (covers.each s p hs hp) (all _ (proper.slots s p hs hp))) }

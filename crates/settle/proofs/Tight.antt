@@ -1,12 +1,17 @@
 -- A settling on its way: what one showing, a round and rounds in a row do. Assumes nothing.
 use Rattle.std.proofs.Common.{◌≡◌, ℕ, zero, suc, ◌+◌, ◌<◌, T, ◌⊎◌, List, [], ◌∷◌, length, get_or, sym, refl, ◌∙◌, subst, inl, inr, ⊎_elim, arith}
 use Rattle.std.proofs.lemmas.Bool.{cases_eq}
+use Rattle.std.proofs.lemmas.Nat.Bits.{bit_at-zero}
 use Rattle.subject.specs.Boxes as Subject
-use Rattle.subject.specs.Boxes.{Box}
-use Rattle.boxes.specs.Boxes.{Open, Fits, Within}
-use Rattle.boxes.proofs.Bits.{open_same}
+use Rattle.subject.specs.Boxes.{Box, opened}
+use Rattle.subject.proofs.Bits as Number
+use Rattle.boxes.specs.Boxes.{Open, opens, Fits, Within, Bit}
+use Rattle.boxes.specs.Slots.{Apart, Changed}
+use Rattle.boxes.proofs.Bits.{open_same, open_there}
+use Rattle.boxes.proofs.Counting.{differ_less}
 use Rattle.binder.specs.Meaning.{Binding, Held, Shown, Alike}
 use Rattle.settle.specs.Keeping.{Framed}
+use Rattle.settle.specs.Reach.{Covers, Resting}
 use Rattle.settle.specs.Settled.{Under, Upheld, Tight, Passed}
 
 abbrev In : List ℕ → ℕ → Type 0
@@ -109,35 +114,78 @@ module _ (m n : Binding) (a c : List ℕ) (one : Tight m n a c) where
     upheld = λ Y w sup. let v : Under Y c = one.upheld Y w sup in two.upheld Y v (upheld_on Y v sup);
   }
 
-  -- a round that closed nothing: what is open is held
-  pub held_same : (k : Binding) (e : List ℕ) → Passed n k c e n.count → e ≡ c
-      → (s p o : ℕ) → s < m.count → p < length (m.scope s) → Open e (get_or (m.scope s) p 0) o → Held m e s p o
-  held_same k e passed same s p o hs hp h =
-      let f : n.scope s ≡ m.scope s = one.framed.sheets.scope s in
-      let held : Held n c s p o = passed.backs s p o (subst (λ x. s < x) (sym one.framed.sheets.count) hs) (subst (λ x. p < length x) (sym f) hp) (subst (λ x. Open e (get_or x p 0) o) (sym f) h) in
-      record {
-        list = held.list;
-        keeps = one.none_added s held.list held.keeps;
-        fits = subst (λ x. Fits x (m.scope s) held.list) (sym same) (subst (λ x. Fits c x held.list) f held.fits);
-        holds = held.holds;
-      }
+pub passed_none : (m : Binding) (masks : List ℕ) (lost : ℕ) (b : List ℕ) → Passed m m masks lost b b 0
+passed_none m masks lost b = record { tight = tight_none m b; backs = λ r t p o h. absurd (omega arith) }
 
-pub passed_none : (m : Binding) (b : List ℕ) → Passed m m b b 0
-passed_none m b = record { tight = tight_none m b; backs = λ t p o h. absurd (omega arith) }
-
--- one sheet more
-pub passed_more : (m n k : Binding) (a c e : List ℕ) (s : ℕ) → s < m.count → Passed m n a c s → Shown n k s c e → Passed m k a e (s + 1)
-passed_more m n k a c e s hs was shown =
+-- one sheet more was shown
+pub passed_more : (m n k : Binding) (masks : List ℕ) (lost : ℕ) (a c e : List ℕ) (s : ℕ) → s < m.count → Passed m n masks lost a c s → Shown n k s c e → Passed m k masks lost a e (s + 1)
+passed_more m n k masks lost a c e s hs was shown =
     let one : Tight m n a c = was.tight in
     let two : Tight n k c e = tight_shown n k s c e (subst (λ x. s < x) (sym one.framed.sheets.count) hs) shown in
     record {
       tight = tight_trans m n a c one k e two;
-      backs = λ t p o ht hp h. ⊎_elim
+      backs = λ r t p o ht hp h. ⊎_elim
           (λ q.
           let f : n.scope s ≡ m.scope s = one.framed.sheets.scope s in
           subst (λ x. Held m a x p o) (sym q) (held_back m n a c one s p o
           (shown.supported p o (subst (λ x. p < length x) (sym f) (subst (λ x. p < length (m.scope x)) q hp))
           (subst (λ x. Open e (get_or x p 0) o) (sym f) (subst (λ x. Open e (get_or (m.scope x) p 0) o) q h)))))
-          (λ ne. was.backs t p o (omega arith) hp (two.within (get_or (m.scope t) p 0) o h))
+          (λ ne. was.backs r t p o (omega arith) hp (two.within (get_or (m.scope t) p 0) o h))
           (cases_eq t s);
     }
+
+-- one sheet more was spared, since it names no lost slot
+pub passed_spared : (m n : Binding) (masks : List ℕ) (lost : ℕ) (a c : List ℕ) (s : ℕ) → s < m.count → Passed m n masks lost a c s → Apart (get_or masks s 0) lost → Passed m n masks lost a c (s + 1)
+passed_spared m n masks lost a c s hs was apart = record {
+  tight = was.tight;
+  backs = λ r t p o ht hp h. ⊎_elim
+      (λ q. r.held t p o (subst (λ x. x < m.count) (sym q) hs) hp (subst (λ x. Apart (get_or masks x 0) lost) (sym q) apart) (was.tight.within (get_or (m.scope t) p 0) o h))
+      (λ ne. was.backs r t p o (omega arith) hp h)
+      (cases_eq t s);
+}
+
+pub covers_framed : (m n : Binding) (masks : List ℕ) → Framed m n → Covers m.count m.scope masks → Covers n.count n.scope masks
+covers_framed m n masks f c = record {
+  each = λ k p hk hp.
+      let e = f.sheets.scope k in
+      subst (λ x. Bit (get_or masks k 0) (get_or x p 0)) (sym e) (c.each k p (subst (λ x. k < x) f.sheets.count hk) (subst (λ x. p < length x) e hp));
+}
+
+-- After a round the sheets hold what is open that name none of the slots which changed in it.
+pub resting_on : (m n : Binding) (masks : List ℕ) (lost new : ℕ) (b c : List ℕ) → length b ≡ 48 → Passed m n masks lost b c m.count → Changed c b 48 new → Covers m.count m.scope masks
+    → Resting m masks b lost → Resting n masks c new
+unfolding Apart
+resting_on m n masks lost new b c long passed changed covers rest = record {
+  held = λ s p o hs hp apart h.
+      let e : n.scope s ≡ m.scope s = passed.tight.framed.sheets.scope s in
+      let ks : s < m.count = subst (λ x. s < x) passed.tight.framed.sheets.count hs in
+      let w : Held m b s p o = passed.backs rest s p o ks (subst (λ x. p < length x) e hp) (subst (λ x. Open c (get_or x p 0) o) e h) in
+      let fits : Fits c (m.scope s) w.list = record {
+        long = w.fits.long;
+        each = λ q hq.
+            let t : ℕ = get_or (m.scope s) q 0 in
+            let was : Open b t (get_or w.list q 0) = w.fits.each q hq in
+            let low : t < 48 = subst (λ x. t < x) long (open_there b t _ was) in
+            open_same b c t _ (sym (changed.same t low (λ x. apart t (covers.each s q ks hq) x))) was;
+      } in
+      record { list = w.list; keeps = passed.tight.still s w.list w.keeps fits; fits = subst (λ x. Fits c x w.list) (sym e) fits; holds = w.holds };
+}
+
+no_bit_lem : (t : ℕ) → Bit 0 t → ⊥
+unfolding Bit
+no_bit_lem t x = absurd (let y : ◌≡◌ {A = ℕ} 0 1 = sym (bit_at-zero t) ∙ x in omega arith)
+
+-- nothing changed any more: every sheet holds what is open
+pub resting_all : (m n : Binding) (masks b c : List ℕ) → Tight m n b c → Resting n masks c 0
+    → (s p o : ℕ) → s < m.count → p < length (m.scope s) → Open c (get_or (m.scope s) p 0) o → Held m c s p o
+unfolding Apart
+resting_all m n masks b c one rest s p o hs hp h =
+    let e : n.scope s ≡ m.scope s = one.framed.sheets.scope s in
+    let w : Held n c s p o =
+    rest.held s p o (subst (λ x. s < x) (sym one.framed.sheets.count) hs) (subst (λ x. p < length x) (sym e) hp) (λ t x y. no_bit_lem t y) (subst (λ x. Open c (get_or x p 0) o) (sym e) h) in
+    record { list = w.list; keeps = one.none_added s w.list w.keeps; fits = subst (λ x. Fits c x w.list) e w.fits; holds = w.holds }
+
+-- a round in which something changed leaves less open
+pub changed_less : (b c : List ℕ) (set : ℕ) → Within c b → Changed c b 48 set → (set ≡ 0 → ⊥) → opened (opens c) < opened (opens b)
+unfolding Bit
+changed_less b c set less changed ne = let t = Number.some_bit set set (omega arith) ne in differ_less b c less (changed.other t.0 t.1).1

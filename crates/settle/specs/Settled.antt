@@ -6,15 +6,17 @@ use Rattle.boxes.specs.Boxes as Cells
 use Rattle.boxes.specs.Boxes.{Open, opens, Within}
 use Rattle.binder.specs.Meaning.{Binding, Held}
 use Rattle.settle.specs.Keeping.{Has, Keeps, Framed}
+use Rattle.settle.specs.Reach.{Covers, Resting}
 
 -- The binder m became k and the box b became c. For every problem of n slots that has these sheets, whose rules the
 -- binder kept as far as they matter in b, c is the largest supported box within b, and the binder keeps the rules as far
--- as they matter in c.
-pub record Settled (m k : Binding) (n : ℕ) (b c : List ℕ) : Type 0 where
+-- as they matter in c. For that the masks have to say which sheets name which slots, and the sheets that name none of the
+-- lost slots have to hold what is open in b.
+pub record Settled (m k : Binding) (masks : List ℕ) (lost n : ℕ) (b c : List ℕ) : Type 0 where
   pub framed : Framed m k
   pub less : Within c b
   pub largest : (P : Problem) → Has P m → length P.sizes ≡ n → Placed P → ((s o : ℕ) → Open b s o → Real P s o) → Keeps P (opens b) m.kept
-      → LargestIn P (opens b) (opens c)
+      → Covers m.count m.scope masks → Resting m masks b lost → LargestIn P (opens b) (opens c)
   pub keeps : (P : Problem) → Has P m → Keeps P (opens b) m.kept → Keeps P (opens c) k.kept
 
 -- Y opens nothing that the cells do not
@@ -34,10 +36,10 @@ pub record Tight (m n : Binding) (b c : List ℕ) : Type 0 where
   pub within : Within c b
   pub upheld : (Y : Box) → Under Y b → Upheld m Y → Under Y c
 
--- the first k sheets were shown: what is open at their slots was held
-pub record Passed (m n : Binding) (b c : List ℕ) (k : ℕ) : Type 0 where
+-- the first k sheets were shown, but for those that name no lost slot: what is open at their slots was held
+pub record Passed (m n : Binding) (masks : List ℕ) (lost : ℕ) (b c : List ℕ) (k : ℕ) : Type 0 where
   pub tight : Tight m n b c
-  pub backs : (t p o : ℕ) → t < k → p < length (m.scope t) → Open c (slice_index (m.scope t) p) o → Held m b t p o
+  pub backs : Resting m masks b lost → (t p o : ℕ) → t < k → p < length (m.scope t) → Open c (slice_index (m.scope t) p) o → Held m b t p o
 
 -- each of the first n slots has an open option
 pub record Alive (b : List ℕ) (n : ℕ) : Type 0 where

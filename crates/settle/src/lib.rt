@@ -4,15 +4,22 @@
 ghost use Rattle.std.specs.Prelude.{Decides};
 ghost use Rattle.settle.specs.Settled.{Settled, Passed, Alive};
 
+mod naming;
+pub mod reach;
+
+use crate::reach::Reach;
 use binder::binders::Binder;
 use boxes::OptionBox;
 
-// Shows every sheet once.
-fn round<B: Binder>(binder: &mut B, slate: &mut OptionBox)
-    ensures { Passed (B.Binder.meaning binder.old) (B.Binder.meaning binder.new) slate.old.cells slate.new.cells (B.Binder.meaning binder.old).count }
+// Shows each sheet once that names a lost slot.
+fn round<B: Binder>(binder: &mut B, reach: &Reach, lost: u64, slate: &mut OptionBox)
+    ensures { Passed (B.Binder.meaning binder.old) (B.Binder.meaning binder.new) reach.now.masks lost slate.old.cells slate.new.cells (B.Binder.meaning binder.old).count }
 {
     let count = binder.sheets();
     for sheet in 0..count {
+        if reach.spares(sheet, lost) {
+            continue;
+        }
         let _ = binder.show(sheet, slate);
     }
 }
@@ -24,19 +31,27 @@ fn alive(slate: &OptionBox, slots: usize) -> bool
     (0..slots).all(|slot| slate.has_open(slot))
 }
 
-// Shows every sheet again and again, until a round closes nothing. Where a slot has no open option left, no
-// supported box is, and the whole box is closed.
-pub fn settle<B: Binder>(binder: &mut B, slots: usize, slate: &mut OptionBox)
-    ensures { Settled (B.Binder.meaning binder.old) (B.Binder.meaning binder.new) slots slate.old.cells slate.new.cells }
+// Shows the sheets that name a lost slot, then those that name a slot which lost an option by that, and so on, until
+// nothing closes. What is open has to be held by the other sheets, so that they need not be asked. Where a slot has no
+// open option left, no supported box is, and the whole box is closed.
+pub fn settle<B: Binder>(
+    binder: &mut B,
+    reach: &Reach,
+    slots: usize,
+    mut lost: u64,
+    slate: &mut OptionBox,
+)
+    ensures { Settled (B.Binder.meaning binder.old) (B.Binder.meaning binder.new) reach.now.masks lost slots slate.old.cells slate.new.cells }
 {
     'rounds: loop {
         let before = *slate;
-        round(binder, slate);
+        round(binder, reach, lost, slate);
         if !alive(slate, slots) {
             *slate = OptionBox::none();
             return;
         }
-        if slate.same_as(&before) {
+        lost = slate.changed(&before);
+        if lost == 0 {
             return;
         }
     }

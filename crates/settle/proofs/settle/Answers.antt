@@ -1,22 +1,32 @@
-use Rattle.std.proofs.Common.{T, sym, subst}
+use Rattle.std.proofs.Common.{sym, subst, arith}
 use Rattle.std.proofs.lemmas.Bool.{both_ways}
-use Rattle.boxes.proofs.Counting.{differ_less}
-use Rattle.settle.proofs.Tight.{tight_trans}
+use Rattle.settle.specs.Reach.{Resting}
+use Rattle.settle.proofs.Tight.{tight_none, tight_trans, covers_framed, resting_on, changed_less}
 use Rattle.settle.proofs.Keeping.{settled_same, settled_dry}
 use Rattle.settle.proofs.settle.Goals as goal
 
+pub rounds-init : goal.rounds-init
+rounds-init g c = (tight_none _ _, λ covers rest. rest)
+
 pub returns-then-not-alive : goal.returns-then-not-alive
 returns-then-not-alive g c =
-    settled_dry _ _ c.args.slots _ _ (tight_trans _ _ _ _ c.rounds.invariant _ _ c.round.ensures.tight) c.none.result.cells
+    settled_dry _ _ c.args.slots _ _ (tight_trans _ _ _ _ c.rounds.invariant.0 _ _ c.round.ensures.tight) _ _ c.none.result.cells
     (λ a. both_ways _ c.if-not-alive.true (c.alive.ensures.1 a)) c.none.ensures.none
 
-pub returns-then-same_as : goal.returns-then-same_as
-returns-then-same_as g c =
-    settled_same _ _ _ c.args.slots _ _ _ c.rounds.invariant c.round.ensures (c.same_as.ensures.same (subst T (sym c.if-same_as.true) tt))
+pub returns-then-lost-eq0 : goal.returns-then-lost-eq0
+returns-then-lost-eq0 g c =
+    let was = c.rounds.invariant in
+    settled_same _ _ _ _ c.args.slots _ _ (tight_trans _ _ _ _ was.0 _ _ c.round.ensures.tight)
+    (λ covers rest. subst (Resting _ _ _) c.if-lost-eq0.true
+    (resting_on _ _ _ _ _ _ _ c.rounds.slate.long c.round.ensures c.changed-lost.ensures (covers_framed _ _ _ was.0.framed covers) (was.1 covers rest)))
     (c.alive.ensures.0 c.if-not-alive.false)
 
 pub rounds-smaller : goal.rounds-smaller
-rounds-smaller g c = differ_less _ _ c.round.ensures.tight.within (c.same_as.ensures.other (λ t. subst T c.if-same_as.false t))
+rounds-smaller g c = changed_less _ _ _ c.round.ensures.tight.within c.changed-lost.ensures c.if-lost-eq0.false
 
 pub rounds-preserved : goal.rounds-preserved
-rounds-preserved g c = tight_trans _ _ _ _ c.rounds.invariant _ _ c.round.ensures.tight
+rounds-preserved g c =
+    let was = c.rounds.invariant in (
+      tight_trans _ _ _ _ was.0 _ _ c.round.ensures.tight,
+      λ covers rest. resting_on _ _ _ _ _ _ _ c.rounds.slate.long c.round.ensures c.changed-lost.ensures (covers_framed _ _ _ was.0.framed covers) (was.1 covers rest),
+    )

@@ -4,8 +4,8 @@ use Rattle.explore.proofs.Stacking.{narrow_low}
 use Rattle.explore.proofs.stack.Stack.new.Goals as goal
 
 pub invariant_of-result : goal.invariant_of-result
-invariant_of-result c = record { tall = (omega arith, refl); narrow = ∣ narrow_low _ _ (omega arith) ∣₁ }
+invariant_of-result c = record { tall = (omega arith, refl); even = refl; narrow = ∣ narrow_low _ _ (omega arith) ∣₁ }
 
 pub returns : goal.returns
 unfolding box_at
-returns c = record { top = refl; first = refl }
+returns c = record { top = refl; first = refl; lost = refl }

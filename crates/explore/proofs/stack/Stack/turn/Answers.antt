@@ -13,9 +13,9 @@ returns-then-not-has_open g c =
     let t = c.args.self.now in
     let high : t.top ≡ suc (t.top - 1) = omega (arith, c.in-Some.ensures.0) in
     record {
-      law = λ P D G X m e a.
-          turn_dry _ _ t.top (t.top - 1) _ _ _ _ c.args.slots _ _ high c.in-Some.ensures.1 c.settle.ensures P D G X m e a
-          c.drop_next.ensures.same c.drop_next.ensures.top c.drop_next.ensures.undone (λ w. both_ways _ c.if-not-has_open.true (c.has_open.ensures.1 w));
+      law = λ P D G X m e v a.
+          turn_dry _ _ _ _ _ t.top (t.top - 1) _ _ _ _ c.args.slots _ _ high c.in-Some.ensures.1 c.settle.ensures P D G X m e v a
+          c.drop_next.ensures.same c.drop_next.ensures.lost c.drop_next.ensures.top c.drop_next.ensures.undone (λ w. both_ways _ c.if-not-has_open.true (c.has_open.ensures.1 w));
       less = weight_drop _ _ t.top _ c.drop_next.ensures.same c.drop_next.ensures.top;
       long = tt;
     }
@@ -26,9 +26,9 @@ returns-in_default-loose g c =
     let high : t.top ≡ suc (t.top - 1) = omega (arith, c.in-Some.ensures.0) in
     let fewer = c.drop_next-in_default-loose.ensures in
     record {
-      law = λ P D G X m e a.
-          turn_found _ _ t.top (t.top - 1) _ _ _ _ c.args.slots _ _ high c.in-Some.ensures.1 c.settle.ensures P D G X m e a
-          fewer.same fewer.top fewer.undone (g.B.Binder.proper c.args.binder.now) (c.has_open.ensures.0 c.if-not-has_open.false)
+      law = λ P D G X m e v a.
+          turn_found _ _ _ _ _ t.top (t.top - 1) _ _ _ _ c.args.slots _ _ high c.in-Some.ensures.1 c.settle.ensures P D G X m e v a
+          fewer.same fewer.lost fewer.top fewer.undone (g.B.Binder.proper c.args.binder.now) (c.has_open.ensures.0 c.if-not-has_open.false)
           c.settle.new.slate.long c.in_default-loose.ensures _ c.lay.ensures;
       less = weight_drop _ _ t.top _ fewer.same fewer.top;
       long = c.lay.ensures.long;
@@ -47,9 +47,9 @@ returns g c =
     let t = c.args.self.now in
     let high : t.top ≡ suc (t.top - 1) = omega (arith, c.in-Some.ensures.0) in
     record {
-      law = λ P D G X m e a.
+      law = λ P D G X m e v a.
           by_ways c.mark.result _ _ c.mark.ensures
-          (λ _ d. turn_split _ _ t.top (t.top - 1) _ _ _ _ c.args.slots _ _ high c.in-Some.ensures.1 c.settle.ensures P D G X m e a
+          (λ _ d. turn_split _ _ _ _ _ t.top (t.top - 1) _ _ _ _ c.args.slots _ _ high c.in-Some.ensures.1 c.settle.ensures P D G X m e v a
           c.split.ensures.top c.split.ensures.split d.1)
           (λ _ d. absurd (omega (arith, d.1, c.settle.ensures.framed.marks, a.levels.marks, a.room, c.split.ensures.top, c.split.new.self.tall.0)));
       less = c.split.ensures.less;
@@ -57,4 +57,4 @@ returns g c =
     }
 
 pub returns-in_default : goal.returns-in_default
-returns-in_default g c = record { law = λ P D G X m e a. (exploring_over P D G X m _ _ _ c.in_default.ensures a, a); less = (c.in_default.ensures, refl, refl); long = tt }
+returns-in_default g c = record { law = λ P D G X m e v a. (exploring_over P D G X m _ _ _ _ c.in_default.ensures a, a); less = (c.in_default.ensures, refl, refl); long = tt }

@@ -11,5 +11,5 @@ pub returns-clause-law : goal.returns-clause-law
 returns-clause-law g c P L a =
     let top = c.args.self.now.depth - 1 in
     let there : top < length c.args.self.now.saved = omega (arith, c.args.self.now.deep, c.args.self.now.long, c.if-self-eq0.false) in
-    backed _ P L _ _ c.count.result top refl refl refl (omega (arith, c.if-self-eq0.false)) (cells_read c.args.self.now.saved top _ there)
+    backed _ P L _ _ c.count.result top refl refl refl refl (omega (arith, c.if-self-eq0.false)) (cells_read c.args.self.now.saved top _ there)
     (c.restore.ensures (omega (arith, a.stands.marks, c.if-self-eq0.false))) c.count.ensures a

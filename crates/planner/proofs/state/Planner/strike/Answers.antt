@@ -14,4 +14,4 @@ pub returns-clause-law : goal.returns-clause-law
 returns-clause-law g c P L a =
     let found = c.in_ok-option.ensures in
     let closed = subst (λ o. Closed c.args.self.now.slate.cells c.close.new.self.cells c.args.slot o) found.0 c.close.ensures in
-    struck_done _ P L _ _ c.args.slot c.args.option c.count.result _ refl refl refl found.1 closed c.settle.ensures c.count.ensures a
+    struck_done _ P L _ _ c.args.slot c.args.option c.count.result _ _ refl refl refl refl found.1 closed c.slot_alone.ensures c.settle.ensures c.count.ensures a

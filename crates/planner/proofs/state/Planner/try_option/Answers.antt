@@ -19,5 +19,5 @@ pub returns-clause-law : goal.returns-clause-law
 returns-clause-law g c P L a =
     let found = c.in_ok-option.ensures in
     let fixed = subst (λ o. Fixed c.args.self.now.slate.cells c.fix.new.self.cells c.args.slot o) found.0 c.fix.ensures in
-    tried_done _ P L _ _ c.args.slot c.args.option c.count-left.result _ _ refl refl refl (omega (arith, c.if-self-ge-TRIES.false)) found.1 fixed
-    (c.save.ensures (omega (arith, a.stands.marks, c.if-self-ge-TRIES.false))) c.settle.ensures c.count-left.ensures a
+    tried_done _ P L _ _ c.args.slot c.args.option c.count-left.result _ _ _ refl refl refl refl (omega (arith, c.if-self-ge-TRIES.false)) found.1 fixed
+    (c.save.ensures (omega (arith, a.stands.marks, c.if-self-ge-TRIES.false))) c.slot_alone.ensures c.settle.ensures c.count-left.ensures a
