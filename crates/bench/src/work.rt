@@ -38,7 +38,7 @@ pub fn walk<B: Binder + Drop>(planner: Planner<B>, count: u32) -> Tally {
     let mut walk = planner.begin();
     for _ in 0..count {
         match walk.next(&mut plan[..]) {
-            Ok(Step::Plan) => tally.note_plan(&plan),
+            Ok(Step::Plan(_)) => tally.note_plan(&plan),
             _ => {
                 tally.note(0);
                 walk = walk.end().begin();

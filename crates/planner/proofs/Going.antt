@@ -110,9 +110,9 @@ module _ {B : Type 0} {bound : Ghosts B} (meaning : B → Binding) (P : Problem)
       }
 
   -- The next plan is given.
-  pub plan_given : (L : Log) (w v : Walk B bound) (n : ℕ) (p : Plan) → w.planner.slots.count ≤ n → (a : Walking meaning P L w) → First P a.decisions (given L) p → Goes meaning P a.decisions (p ∷ given L) v
-      → Walking meaning P (nexts n p (Ok ThePlan) ∷ L) v
-  plan_given L w v n p h a first go =
+  pub plan_given : (L : Log) (w v : Walk B bound) (n k : ℕ) (p : Plan) → w.planner.slots.count ≤ n → (a : Walking meaning P L w) → First P a.decisions (given L) p → Goes meaning P a.decisions (p ∷ given L) v
+      → Walking meaning P (nexts n p (Ok (ThePlan k)) ∷ L) v
+  plan_given L w v n k p h a first go =
       let D = a.decisions in
       let room : length P.sizes ≤ n = (let e = walk_slots D (given L) w a.goes in omega arith) in
       record {
@@ -203,15 +203,15 @@ module _ {B : Type 0} {bound : Ghosts B} (meaning : B → Binding) (w0 w v : Wal
       (carried meaning P D (given L) (given L) w v es er ev ed el go' t.1 (subst (λ s. At s (given L) (height v.stack)) (sym spent) (ap height same.1 ∙ same.0)))
 
   -- a plan was found
-  pub turn_found : (p q : List ℕ) → r ≡ Found q → v.state ≡ AtPlan → (P : Problem) (L : Log) (n : ℕ) → w0.planner.slots.count ≤ n → p ≡ take w0.planner.slots.count q → Walking meaning P L w0
-      → Walking meaning P (nexts n p (Ok ThePlan) ∷ L) v
-  turn_found p q e state P L n room same a =
+  pub turn_found : (k : ℕ) (p q : List ℕ) → r ≡ Found q → v.state ≡ AtPlan → (P : Problem) (L : Log) (n : ℕ) → w0.planner.slots.count ≤ n → p ≡ take w0.planner.slots.count q → Walking meaning P L w0
+      → Walking meaning P (nexts n p (Ok (ThePlan k)) ∷ L) v
+  turn_found k p q e state P L n room same a =
       let D = a.decisions in
       let go' = was.goes P D (given L) a.goes in
       let t : Turned P D (given L) (opens w.planner.slate.cells) go'.from (Found q) (pending v.stack) (lost_of v.stack) (height v.stack) (meaning v.planner.binder) =
       subst (λ x. Turned P D (given L) (opens w.planner.slate.cells) go'.from x (pending v.stack) (lost_of v.stack) (height v.stack) (meaning v.planner.binder)) e (gave P D (given L) a.goes) in
       let is : take (length P.sizes) q ≡ p = ap (λ k. take k q) (walk_slots meaning P D (given L) w0 a.goes) ∙ sym same in
-      plan_given meaning P L w0 v n p room a (subst (First P D (given L)) is t.0)
+      plan_given meaning P L w0 v n k p room a (subst (First P D (given L)) is t.0)
       (carried meaning P D (given L) (p ∷ given L) w v es er ev ed el go'
       (subst (λ x. Exploring P D (x ∷ given L) (opens w.planner.slate.cells) go'.from (pending v.stack) (lost_of v.stack) (height v.stack) (meaning v.planner.binder)) is t.1)
       (subst (λ s. At s (p ∷ given L) (height v.stack)) (sym state) (omega arith)))

@@ -8,10 +8,10 @@ pub enum State {
     Spent,
 }
 
-// The next plan was written to the plan memory, or there is none left. The plan itself goes to the memory that is
-// lent, so that a step holds none.
+// The next plan was written to the plan memory, with so many options, or there is none left. The plan itself goes to the
+// memory that is lent, so that a step holds none.
 #[derive(Clone, Copy, PartialEq, Debug)]
 pub enum Step {
-    Plan,
+    Plan(usize),
     NoPlan,
 }

@@ -2,7 +2,7 @@
 ghost use Rattle.std.specs.Prelude.{◌≡◌, ℕ, ◌≤◌, ◌∷◌, ◌++◌, length, take, drop};
 ghost use Rattle.subject.specs.Problem.{Problem};
 ghost use Rattle.subject.specs.Logs.{Log};
-ghost use Rattle.planner.specs.Answers.{begins, nexts, ends, written};
+ghost use Rattle.planner.specs.Answers.{begins, nexts, ends, written, Filled};
 ghost use Rattle.planner.specs.States.{After};
 ghost use Rattle.planner.specs.Walks.{Walking, Refused};
 
@@ -38,18 +38,12 @@ impl<B: Binder> Planner<B> {
 }
 
 impl<B: Binder> Walk<B> {
-    // How many slots a plan has.
-    pub fn slots(&self) -> usize
-        ensures { result ≡ self.now.planner.slots.count }
-    {
-        self.planner.slots.count
-    }
-
     // Goes on to the next plan and writes it to the memory, slot s's option to byte s; other bytes stay. With no
     // plan left it writes nothing, now and at each later call.
     pub fn next(&mut self, memory: &mut [u8]) -> Result<Step, Refusal>
         ensures law { (P : Problem) (L : Log) → Walking B.Binder.meaning P L self.old → Walking B.Binder.meaning P (nexts (length memory.old) (take self.old.planner.slots.count memory.new) result ∷ L) self.new }
         ensures wrote { memory.new ≡ written self.old.planner.slots.count result memory.old memory.new }
+        ensures filled { Filled self.old.planner.slots.count result }
         ensures refused { Refused result (length memory.old) self.old self.new }
         ensures slots { self.new.planner.slots ≡ self.old.planner.slots }
     {
@@ -72,7 +66,7 @@ impl<B: Binder> Walk<B> {
                 (_, Outcome::Found(plan)) => {
                     self.state = State::AtPlan;
                     write_plan(&plan[..count], memory);
-                    return Ok(Step::Plan);
+                    return Ok(Step::Plan(count));
                 }
                 (_, Outcome::Dry) => {}
                 (_, Outcome::Split) => {}

@@ -24,11 +24,11 @@ plan_front n x zeros memory p f e h =
 
 module _ {B : Type 0} {bound : Ghosts B} (meaning : B → Binding) (w v : Walk B bound) (m m' : List ℕ) (count : ℕ) (x : Step)
     (law : (P : Problem) (L : Log) → Walking meaning P L w → Walking meaning P (nexts (length m) (take count m') (Ok x) ∷ L) v) (wrote : m' ≡ written count (Ok x) m m') where
-  pub stepped_plan : (p : GivenPlan) (n : ℕ) → x ≡ Plan → n ≡ count → n ≤ length m' → chosen p ≡ take n m' → Replied meaning (Some Next) (Ok (GivePlan p)) (Inside w) (Inside v) m m'
+  pub stepped_plan : (p : GivenPlan) (n : ℕ) → x ≡ Plan n → n ≡ count → n ≤ length m' → chosen p ≡ take n m' → Replied meaning (Some Next) (Ok (GivePlan p)) (Inside w) (Inside v) m m'
   stepped_plan p n e same within front =
       let is : chosen p ≡ take count m' = front ∙ ap (λ k. take k m') same in
       let long : length (chosen p) ≡ count = ap length front ∙ rw length-take (omega arith) in
-      let says : (P : Problem) (L : Log) → Walking meaning P L w → Walking meaning P (nexts (length m) (take count m') (Ok Plan) ∷ L) v =
+      let says : (P : Problem) (L : Log) → Walking meaning P L w → Walking meaning P (nexts (length m) (take count m') (Ok (Plan n)) ∷ L) v =
       λ P L a. subst (λ y. Walking meaning P (nexts (length m) (take count m') (Ok y) ∷ L) v) e (law P L a) in
       record {
         memory = wrote ∙ ap (λ y. written count (Ok y) m m') e ∙ (λ i. sym is i ++ drop (sym long i) m);

@@ -28,7 +28,7 @@ fn step<B: Binder>(walk: &mut Walk<B>, memory: &mut [u8]) -> Reply
     ensures { Replied B.Binder.meaning (Some Next) result (Inside walk.old) (Inside walk.new) memory.old memory.new }
 {
     match walk.next(memory)? {
-        Step::Plan => Ok(Answer::Plan(plan_in(memory, walk.slots()))),
+        Step::Plan(count) => Ok(Answer::Plan(plan_in(memory, count))),
         Step::NoPlan => Ok(Answer::NoPlan),
     }
 }
