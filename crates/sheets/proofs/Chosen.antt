@@ -1,5 +1,5 @@
 -- That the sheets of a make, taken from a checked catalogue, are sound ones. Assumes nothing.
-use Rattle.std.proofs.Common.{◌≡◌, ℕ, zero, suc, ◌+◌, ◌<◌, ◌≤◌, Bool, true, false, cond, List, [], ◌∷◌, ◌++◌, map, length, get_or, take, set, pos, Some, None, Ok, Err, filter, Result, sym, refl, ap, ◌∙◌, subst, arith}
+use Rattle.std.proofs.Common.{◌≡◌, ℕ, zero, suc, ◌+◌, ◌<◌, ◌≤◌, Bool, true, false, cond, List, [], ◌∷◌, ◌++◌, map, length, get_or, take, replicate, set, pos, Some, None, Ok, Err, filter, Result, sym, refl, ap, ◌∙◌, subst, arith}
 use Rattle.std.specs.List.{slice_get, AllByRecursion}
 use Rattle.std.proofs.ByRecursion.{all_kept_by, kept_by_passes, All-weaker}
 use Rattle.std.proofs.lemmas.List.{length-map, length-set, take_all, take_more, take_more_set, map_push}
@@ -15,7 +15,7 @@ use Rattle.catalogue.specs.Verdict.{content, accepts}
 use Rattle.catalogue.specs.Law.{Octets}
 use Rattle.catalogue.specs.Views.{Shown, is_make, of_make, showing, showing_of, shown_by, seen, count_said, sheet_said}
 use Rattle.catalogue.proofs.Held.{Held, held}
-use Rattle.sheets.specs.Tables.{Taken, shown_in, sheets_in}
+use Rattle.sheets.specs.Tables.{Taken, shown_in, shown_at, sheets_in}
 
 -- the sheets of a make are some of all
 same_make : (m k : Make) → is_make m k ≡ true → k ≡ m
@@ -92,18 +92,39 @@ none_there want i l e =
     let z : ◌≡◌ {A = ℕ} 0 1 = cc in
     omega arith
 
--- the first i of n sheets of a make are taken
+-- where each view shows nothing, nothing is shown anywhere
+nothing_in : (n s : ℕ) (v : View) → shown_by v ≡ shown_at [] 0 → shown_at (replicate n v) s ≡ shown_at [] 0
+nothing_in zero s v e = refl
+nothing_in (suc n) zero v e = e
+nothing_in (suc n) (suc s) v e = nothing_in n s v e
+
+-- a view that is put in before a place changes nothing there
+shown_past : (views : List View) (i s : ℕ) (v : View) → i < s → shown_at (set views i v) s ≡ shown_at views s
+shown_past [] i s v l = refl
+shown_past (w ∷ ws) zero zero v l = absurd (omega arith)
+shown_past (w ∷ ws) zero (suc s) v l = refl
+shown_past (w ∷ ws) (suc i) zero v l = absurd (omega arith)
+shown_past (w ∷ ws) (suc i) (suc s) v l = shown_past ws i s v (omega arith)
+
+-- the first i of n sheets of a make are taken, and no more
 pub record Filled (r : Result Content Fault) (m : Make) (views : List View) (i n : ℕ) : Type 0 where
   pub long : length views ≡ 64
   pub within : i ≤ n
   pub shown : shown_in views i ≡ take i (map showing (sheets_in r m))
+  pub rest : (s : ℕ) → i ≤ s → shown_at views s ≡ shown_at [] 0
 
 module _ (r : Result Content Fault) (m : Make) where
   want_long : (n : ℕ) → n ≡ count_said r m → length (map showing (sheets_in r m)) ≡ n
   want_long n e = length-map (sheets_in r m) showing ∙ sym (count_said_lem r m) ∙ sym e
 
-  pub filled_none : (views : List View) (n : ℕ) → length views ≡ 64 → Filled r m views 0 n
-  filled_none views n e = record { long = e; within = omega arith; shown = refl }
+  pub filled_none : (views : List View) (n : ℕ) (v : View) → length views ≡ 64 → views ≡ replicate 64 v → shown_by v ≡ shown_at [] 0 → Filled r m views 0 n
+  filled_none views n v e is nothing =
+      record {
+        long = e;
+        within = omega arith;
+        shown = refl;
+        rest = λ s h. ap (λ l. shown_at l s) is ∙ nothing_in 64 s v nothing;
+      }
 
   pub filled_all : (views all : List View) (i n : ℕ) → Filled r m views i n → n ≤ i → n ≡ count_said r m → all ≡ views → shown_in all n ≡ map showing (sheets_in r m)
   filled_all views all i n f h count e =
@@ -155,4 +176,5 @@ module _ (bs : List ℕ) (c : Counts) (a : accepts bs c ≡ true) (o : Octets bs
         long = ap length is ∙ length-set views i v ∙ f.long;
         within = omega arith;
         shown = ap (λ l. shown_in l (i + 1)) is ∙ step;
+        rest = λ s h. ap (λ l. shown_at l s) is ∙ shown_past views i s v (omega arith) ∙ f.rest s (omega arith);
       }

@@ -1,18 +1,19 @@
 // Takes the sheets of one make from a checked catalogue.
-ghost use Rattle.std.specs.Prelude.{◌≡◌, map, length};
+ghost use Rattle.std.specs.Prelude.{◌≡◌, ℕ, ◌≤◌, [], map, length};
 ghost use Rattle.catalogue.specs.Verdict.{content};
 ghost use Rattle.catalogue.specs.Views.{showing};
-ghost use Rattle.sheets.specs.Tables.{shown_in, sheets_in};
+ghost use Rattle.sheets.specs.Tables.{shown_in, shown_at, sheets_in};
 
 use crate::table::{Sheets, no_view};
 use catalogue::checked::Catalogue;
 use catalogue::make::Make;
 
-// All sheets of a make, in the file's order.
+// All sheets of a make, in the file's order. The rest of the table shows nothing.
 #[tactic(auto, using(crate::proofs::Chosen::count_few))]
 pub fn sheets_of<'a>(catalogue: &Catalogue<'a>, make: Make) -> Sheets<'a>
     ensures is { shown_in result.views result.count ≡ map showing (sheets_in (content catalogue.now.bytes.now) make) }
     ensures make { result.make ≡ make }
+    ensures rest { (s : ℕ) → result.count ≤ s → shown_at result.views s ≡ shown_at [] 0 }
     ensures count { result.count ≡ length (sheets_in (content catalogue.now.bytes.now) make) }
 {
     let count = catalogue.sheet_count(make);

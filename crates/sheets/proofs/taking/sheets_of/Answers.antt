@@ -1,9 +1,13 @@
 use Rattle.std.proofs.Common.{sym, refl, ap, ◌∙◌, arith}
 use Rattle.catalogue.specs.Verdict.{content}
 use Rattle.catalogue.specs.Views.{seen}
-use Rattle.sheets.proofs.Chosen.{count_few, count_said_lem, taken_of, filled_more, filled_all, never_none}
+use Rattle.sheets.proofs.Chosen.{count_few, count_said_lem, taken_of, filled_none, filled_more, filled_all, never_none}
 use Rattle.sheets.proofs.taking.sheets_of.Goals as goal
 use Rattle.sheets.proofs.taking.sheets_of.Goals.{in-Some, in_default}
+
+pub sheets-init : goal.sheets-init
+sheets-init c =
+    filled_none (content c.args.catalogue.now.bytes.now) c.args.make _ c.sheet_count-count.result c.no_view-views.result refl refl c.no_view-views.ensures
 
 pub sheets-preserved : goal.sheets-preserved
 sheets-preserved c =
@@ -30,5 +34,6 @@ returns c =
     record {
       is = filled_all (content k.bytes.now) c.args.make c.sheets.views c.sheets.views c.sheets.i c.sheet_count-count.result c.sheets.invariant c.sheets-test.false count refl;
       make = refl;
+      rest = λ s h. c.sheets.invariant.rest s (omega (arith, c.sheets.invariant.within));
       count = count ∙ count_said_lem (content k.bytes.now) c.args.make;
     }
