@@ -1,7 +1,7 @@
 // What the programs read: the first bytes of an input or of a file.
 #![tactic(auto)]
 
-ghost use Rattle.std.specs.Prelude.{◌≡◌, ◌≢◌, ◌≤◌, take, IfOk, IfErr, IfSome, vec_len};
+ghost use Rattle.std.specs.Prelude.{◌≡◌, ◌≢◌, ◌≤◌, [], take, IfOk, IfErr, IsOkAnd, IfSome, vec_len};
 ghost use Rattle.std.specs.IoError.{error_kind};
 
 use std::alloc::Allocator;
@@ -16,7 +16,8 @@ mod tests;
 // How much the programs read at most, of a file and of an input. An accepted catalogue is shorter.
 pub const LIMIT: usize = 65536;
 
-// The first bytes of an input: all, or as many as `limit` says where there are more.
+// The first bytes of an input: all, or as many as `limit` says where there are more. A read that is interrupted is tried
+// again.
 pub fn first_bytes<R: Read + Drop, A: Allocator>(
     alloc: A,
     input: R,
@@ -24,6 +25,7 @@ pub fn first_bytes<R: Read + Drop, A: Allocator>(
 ) -> io::Result<Vec<u8, A>>
     ensures within { IfOk result (λ bytes. vec_len bytes ≤ limit) }
     ensures bytes { IfSome (R.remaining input) (λ xs. IfOk result (λ bytes. bytes.items ≡ take limit xs)) }
+    ensures retried { IfErr result (λ e. error_kind e ≢ ErrorKind.Interrupted) }
 {
     let mut bytes = Vec::new(alloc);
     input.take(limit as u64).read_to_end(&mut bytes)?;
@@ -32,8 +34,20 @@ pub fn first_bytes<R: Read + Drop, A: Allocator>(
     Ok(bytes)
 }
 
-// The same of a file. One that is missing counts as empty, and so does one whose reading says that it is not found. A
-// read that is interrupted is tried again, and every other error is passed on.
+// What was read, or no bytes where the error says that nothing was found. Every other error is passed on.
+fn unless_missing<A: Allocator>(alloc: A, read: io::Result<Vec<u8, A>>) -> io::Result<Vec<u8, A>>
+    ensures kept { IfOk read (λ bytes. result ≡ read) }
+    ensures missing { IfErr read (λ e. error_kind e ≡ ErrorKind.NotFound → IsOkAnd result (λ bytes. bytes.items ≡ [])) }
+    ensures passed { IfErr read (λ e. error_kind e ≢ ErrorKind.NotFound → result ≡ read) }
+{
+    match read {
+        Err(e) if e.kind() == ErrorKind::NotFound => Ok(Vec::new(alloc)),
+        read => read,
+    }
+}
+
+// The same of a file. One that is missing counts as empty, and so does one whose reading says that it is not found. Every
+// other error is passed on. Of the bytes the contract says no more than how many there are: no contract knows a file's.
 pub fn first_bytes_of_file<R: Files + Alloc>(
     rt: &R,
     path: &str,
@@ -42,8 +56,6 @@ pub fn first_bytes_of_file<R: Files + Alloc>(
     ensures within { IfOk result (λ bytes. vec_len bytes ≤ limit) }
     ensures missing { IfErr result (λ e. error_kind e ≢ ErrorKind.NotFound) }
 {
-    match File::open(rt, path).and_then(|file| first_bytes(rt.alloc(), file, limit)) {
-        Err(e) if e.kind() == ErrorKind::NotFound => Ok(Vec::new(rt.alloc())),
-        read => read,
-    }
+    let read = File::open(rt, path).and_then(|file| first_bytes(rt.alloc(), file, limit));
+    unless_missing(rt.alloc(), read)
 }
