@@ -47,7 +47,8 @@ fn unless_missing<A: Allocator>(alloc: A, read: io::Result<Vec<u8, A>>) -> io::R
 }
 
 // The same of a file. One that is missing counts as empty, and so does one whose reading says that it is not found. Every
-// other error is passed on. Of the bytes the contract says no more than how many there are: no contract knows a file's.
+// other error is passed on. No contract knows which file is opened; so what is read of it is said at the closure, and what
+// becomes of that at `unless_missing`.
 pub fn first_bytes_of_file<R: Files + Alloc>(
     rt: &R,
     path: &str,
@@ -56,6 +57,11 @@ pub fn first_bytes_of_file<R: Files + Alloc>(
     ensures within { IfOk result (λ bytes. vec_len bytes ≤ limit) }
     ensures missing { IfErr result (λ e. error_kind e ≢ ErrorKind.NotFound) }
 {
-    let read = File::open(rt, path).and_then(|file| first_bytes(rt.alloc(), file, limit));
+    let read = File::open(rt, path).and_then(
+        |file|
+            ensures within { IfOk result (λ bytes. vec_len bytes ≤ limit) }
+            ensures bytes { IfSome (R.File.remaining file) (λ xs. IfOk result (λ bytes. bytes.items ≡ take limit xs)) }
+        { first_bytes(rt.alloc(), file, limit) },
+    );
     unless_missing(rt.alloc(), read)
 }
