@@ -13,8 +13,11 @@ use std::rt::Files;
 #[cfg(test)]
 mod tests;
 
-// How much the programs read at most, of a file and of an input. An accepted catalogue is shorter.
+// How much the programs read at most, of a file and of an input.
 pub const LIMIT: usize = 65536;
+
+// The longest accepted catalogue has 47,873 bytes, so each is read whole, and one that is cut has too many.
+const _: () = prove!(LIMIT > 47_873);
 
 // The first bytes of an input: all, or as many as `limit` says where there are more. A read that is interrupted is tried
 // again.
