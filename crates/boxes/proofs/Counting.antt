@@ -4,21 +4,19 @@ use Rattle.std.specs.Prelude.{None, Some as Given}
 use native.Mathlib.Nat.{mod-one}
 use lib.Count.{ones, ones_cat}
 use lib.Dec.{eqb_refl, leb}
-use lib.Pointwise.{pointwise}
-use Rattle.std.specs.Cmp.Lexicographic.{same_text, other_text}
 use Rattle.std.specs.Bool.{then_some}
 use Rattle.std.specs.Int.{bit_at, trailing_zeros, w32}
 use Rattle.std.specs.Int.RustNames.{bit_xor}
 use Rattle.std.specs.List.{sum_by, AllWithin, HoldsAt}
 use Rattle.std.proofs.lemmas.Nat.{mod-pow-add, mod_below, pow_pos, one_shl, xor_lt}
 use Rattle.std.proofs.lemmas.Nat.Bits.{bit_at-trailing_zeros, bit_at_xor, bit_at-zero, bit_at-lt, same_from_bits}
-use Rattle.std.proofs.lemmas.List.{same_lists, take_all, get_or_default}
+use Rattle.std.proofs.lemmas.List.{take_all}
 use Rattle.std.proofs.lemmas.List.Sums.{sum_by_more}
 use Rattle.std.proofs.lemmas.Bool.Decides.{nat_tests}
 use Rattle.std.proofs.lemmas.Bool.{cases_eq, cases_lt, eq-eqb, eqb-false, ne_eqb, leb-true, le-leb, not-true, not_from_false}
 use Rattle.subject.specs.Boxes.{Box, Inside, sum, opened_at, opened}
 use Rattle.subject.proofs.Bits as Number
-use Rattle.boxes.specs.Boxes.{Open, opens, Bit, Below, Filled, Some, Least, Lowest, Loose, Two, Within, Differ, SameBox}
+use Rattle.boxes.specs.Boxes.{Open, opens, Bit, Below, Filled, Some, Least, Lowest, Loose, Two, Within, Differ}
 use Rattle.boxes.proofs.Bits.{open_low, open_there}
 
 pub both : (x y : Bool) → T (x && y) ↔ (T x × T y)
@@ -247,28 +245,6 @@ differ_at b c s h hb hc ne =
 pub differ_there : (b c : List ℕ) (s : ℕ) → s < 48 → get_or b s 0 < 2 ^ 32 → get_or c s 0 < 2 ^ 32 → (get_or b s 0 ≡ get_or c s 0 → ⊥) → (d : Differ b c) × (d.slot ≡ s)
 unfolding differ_at
 differ_there b c s h hb hc ne = (differ_at b c s h hb hc ne, refl)
-
--- the first cells are the same, or some are not
-compared : (b c : List ℕ) (n : ℕ) → ((t : ℕ) → t < n → get_or b t 0 ≡ get_or c t 0) ⊎ ((t : ℕ) × (t < n) × (get_or b t 0 ≡ get_or c t 0 → ⊥))
-compared b c zero = inl (λ t h. absurd (omega arith))
-compared b c (suc n) =
-    ⊎_elim
-    (λ same. ⊎_elim
-    (λ e. inl (λ t h. ⊎_elim (λ k. subst (λ s. get_or b s 0 ≡ get_or c s 0) (sym k) e) (λ ne. same t (omega arith)) (cases_eq t n)))
-    (λ ne. inr (n, omega arith, ne))
-    (cases_eq (get_or b n 0) (get_or c n 0)))
-    (λ w. inr (w.0, omega (arith, w.1), w.2))
-    (compared b c n)
-
-pub same_box : (b c : List ℕ) (r : Bool) → r ≡ pointwise nat_eq b c → length b ≡ 48 → length c ≡ 48 → ((s : ℕ) → get_or b s 0 < 2 ^ 32) → ((s : ℕ) → get_or c s 0 < 2 ^ 32) → SameBox b c r
-same_box b c true e lb lc hb hc = record { same = λ _. same_text b c e; other = λ f. absurd (f tt) }
-same_box b c false e lb lc hb hc = record {
-  same = λ t. absurd t;
-  other = λ _. ⊎_elim
-      (λ same. absurd (other_text b c e (same_lists b c (lb ∙ sym lc) (λ i d h. get_or_default b i d 0 h ∙ same i (omega arith) ∙ sym (get_or_default c i d 0 (omega arith))))))
-      (λ w. differ_at b c w.0 w.1 (hb w.0) (hc w.0) w.2)
-      (compared b c 48);
-}
 
 -- what is open in a smaller box is fewer
 sum_le : (f g : ℕ → ℕ) (n : ℕ) → ((i : ℕ) → f i ≤ g i) → sum f n ≤ sum g n

@@ -1,5 +1,5 @@
 -- What a box says: of each of 48 slots, which of 32 options are open. Assumes nothing.
-use Rattle.std.specs.Prelude.{◌≡◌, ℕ, ◌/◌, ◌%◌, ◌^◌, ◌<◌, ◌≤◌, Bool, ◌&&◌, T, List, length, ◌==◌, ◌≢◌, Option, MatchOption, nat_lt, slice_index}
+use Rattle.std.specs.Prelude.{◌≡◌, ℕ, ◌/◌, ◌%◌, ◌^◌, ◌<◌, ◌≤◌, ◌&&◌, List, length, ◌==◌, ◌≢◌, Option, MatchOption, nat_lt, slice_index}
 use Rattle.subject.specs.Boxes.{Box}
 
 -- option o of slot s is open: bit o of its cell is one
@@ -104,8 +104,3 @@ pub record Differ (b c : List ℕ) : Type 0 where
   pub option : ℕ
   pub there : (slot < 48) × (option < 32)
   pub apart : opens b slot option ≡ opens c slot option → ⊥
-
--- the answer whether two boxes are the same
-pub record SameBox (b c : List ℕ) (t : Bool) : Type 0 where
-  pub same : T t → b ≡ c
-  pub other : (T t → ⊥) → Differ b c

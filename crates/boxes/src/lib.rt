@@ -3,7 +3,7 @@
 
 ghost use Rattle.std.specs.Prelude.{◌≡◌, ◌≤◌, ℕ, [], ◌∷◌, length, replicate, Decides, slice_index};
 ghost use Rattle.subject.specs.Boxes.{opened_at, opened};
-ghost use Rattle.boxes.specs.Boxes.{Open, opens, Opened, Closed, Restricted, Fixed, Filled, Some as SomeOpen, Lowest, Two, Loose, Single, Below, SameBox};
+ghost use Rattle.boxes.specs.Boxes.{Open, opens, Opened, Closed, Restricted, Fixed, Filled, Some as SomeOpen, Lowest, Two, Loose, Single, Below};
 
 pub mod slots;
 
@@ -59,16 +59,6 @@ fn several(cell: &u32) -> bool
     ensures { Decides result (Two (cell.now ∷ []) 0) }
 {
     cell.count_ones() >= 2
-}
-
-// Whether the cells of two boxes are the same. These are slices, since a proof knows the range of what a slice holds, and
-// not of what an array does.
-fn same(cells: &[u32], others: &[u32]) -> bool
-    requires first { length cells.now ≡ 48 }
-    requires second { length others.now ≡ 48 }
-    ensures { SameBox cells.now others.now result }
-{
-    cells == others
 }
 
 impl OptionBox {
@@ -149,14 +139,6 @@ impl OptionBox {
         ensures { Decides result (SomeOpen self.now.cells slot) }
     {
         self.cell(slot) != 0
-    }
-
-    // Whether the same options are open in another box. A derived `==` would tell less: this contract also names an option
-    // that is open in just one of the two.
-    pub fn same_as(&self, other: &OptionBox) -> bool
-        ensures { SameBox self.now.cells other.now.cells result }
-    {
-        same(&self.cells, &other.cells)
     }
 
     // How many options are open.

@@ -1,12 +1,12 @@
 -- The slots that the sheets of a binder name, gathered in sets. Assumes nothing.
-use Rattle.std.proofs.Common.{◌≡◌, ℕ, ◌+◌, ◌<◌, ◌≤◌, Bool, true, false, cond, nat_lt, T, ◌⊎◌, List, length, get_or, set, replicate, Ok, Err, Result, ◌∙◌, refl, sym, ap, subst, inl, inr, ⊎_elim, arith, ltb→lt, lt→ltb, length-set, get_or-set_other, get_or-set_same}
+use Rattle.std.proofs.Common.{◌≡◌, ℕ, ◌+◌, ◌<◌, ◌≤◌, Bool, true, false, cond, nat_lt, T, List, length, get_or, set, replicate, Ok, Err, Result, ◌∙◌, refl, sym, ap, subst, ⊎_elim, arith, ltb→lt, lt→ltb, length-set, get_or-set_other, get_or-set_same}
 use Rattle.std.specs.Result.{result_unwrap_or}
 use Rattle.std.proofs.lemmas.List.{get_or_past, get_or-replicate, length-replicate}
 use Rattle.std.proofs.lemmas.Bool.{cases_eq, cases_lt}
 use Rattle.std.proofs.lemmas.Nat.Bits.{bit_at-zero}
 use Rattle.boxes.specs.Boxes.{Bit}
 use Rattle.boxes.specs.Slots.{Added}
-use Rattle.binder.specs.Meaning.{Binding, Proper, arity_of, slot_at}
+use Rattle.binder.specs.Meaning.{Binding, arity_of, slot_at}
 use Rattle.binder.specs.declared.refusal.Refusal.{Refusal}
 use Rattle.binder.specs.declared.refusal.Refusal.TheVariants.{NotThere}
 use Rattle.settle.specs.Reach.{Named, Covers}

@@ -1,5 +1,5 @@
 use Rattle.std.proofs.Common.{◌<◌, arith}
-use Rattle.settle.proofs.Tight.{passed_none, passed_more, passed_spared}
+use Rattle.settle.proofs.Tight.{passed_none, passed_more}
 use Rattle.settle.proofs.Ways.{by_ways}
 use Rattle.settle.proofs.round.Goals as goal
 

@@ -1,4 +1,4 @@
-use Rattle.std.proofs.Common.{sym, subst, arith}
+use Rattle.std.proofs.Common.{subst}
 use Rattle.std.proofs.lemmas.Bool.{both_ways}
 use Rattle.settle.specs.Reach.{Resting}
 use Rattle.settle.proofs.Tight.{tight_none, tight_trans, covers_framed, resting_on, changed_less}

@@ -1,4 +1,4 @@
-use Rattle.std.proofs.Common.{◌<◌, length, subst, arith}
+use Rattle.std.proofs.Common.{◌<◌, length, arith}
 use Rattle.settle.proofs.Scopes.{partly_none, partly_more, named_all, positions, there, slot_is}
 use Rattle.settle.proofs.naming.slots_named.Goals as goal
 
