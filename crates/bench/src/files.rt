@@ -4,9 +4,9 @@ use samples::random::Random;
 use std::alloc::{AllocError, Global};
 
 // Slots in a row, each linked with the next by a table of pairs: many plans, and no dead ends.
-pub fn chain(heap: Global) -> Result<Draft, AllocError> {
-    let mut draft = Draft::new(heap).slots(24, 4)?;
-    for slot in 0..23u8 {
+pub fn chain(heap: Global, slots: u8) -> Result<Draft, AllocError> {
+    let mut draft = Draft::new(heap).slots(slots, 4)?;
+    for slot in 0..slots.min(48).saturating_sub(1) {
         draft = draft.fit(&[slot, slot + 1])?;
         for pair in 0..16u8 {
             let (a, b) = (pair / 4, pair % 4);

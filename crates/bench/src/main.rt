@@ -18,6 +18,7 @@ use work::{Tally, read, screen, walk};
 #[derive(Clone, Copy)]
 enum Job {
     Chain,
+    LongChain,
     Screen,
     Columns,
     DeadEnds,
@@ -25,8 +26,9 @@ enum Job {
     Loads,
 }
 
-const ALL: [(&str, Job); 6] = [
+const ALL: [(&str, Job); 7] = [
     ("chain", Job::Chain),
+    ("long-chain", Job::LongChain),
     ("screen", Job::Screen),
     ("columns", Job::Columns),
     ("dead-ends", Job::DeadEnds),
@@ -36,7 +38,8 @@ const ALL: [(&str, Job); 6] = [
 
 fn file(job: Job, heap: Global) -> Result<Draft, AllocError> {
     match job {
-        Job::Chain => files::chain(heap),
+        Job::Chain => files::chain(heap, 24),
+        Job::LongChain => files::chain(heap, 48),
         Job::Screen => files::full(heap),
         Job::Columns => files::columns(heap),
         Job::DeadEnds => files::dead_ends(heap),
