@@ -5,6 +5,8 @@ use catalogue::make::Make;
 use planner::state::Planner;
 use planner::step::Step;
 use samples::random::Random;
+use sheets::table::Sheets;
+use sheets::taking::sheets_of;
 
 // How many answers there were, and a number that depends on each.
 #[derive(Clone, Copy, Default)]
@@ -70,24 +72,27 @@ pub fn screen<B: Binder + Drop>(mut planner: Planner<B>, count: u32) -> Tally {
     tally
 }
 
-// Reads every row and weight once, byte by byte.
-fn read_once(catalogue: &Catalogue, tally: &mut Tally) {
-    for make in [Make::Fit, Make::Bar, Make::Load] {
-        for sheet in 0..catalogue.sheet_count(make) {
-            if let Some(view) = catalogue.sheet(make, sheet) {
-                for byte in view.entries {
-                    tally.mix(u64::from(*byte));
-                }
-            }
+// Adds up the bytes of all rows, or of all weights, of the sheets of one make.
+fn added(sheets: &Sheets) -> u64 {
+    let mut sum: u64 = 0;
+    for view in &sheets.views {
+        for byte in view.entries {
+            sum = sum.wrapping_add(u64::from(*byte));
         }
     }
+    sum
 }
 
+// Passes over all rows and weights again and again, and does nothing but add them up.
 pub fn read(catalogue: &Catalogue, count: u32) -> Tally {
+    let fit = sheets_of(catalogue, Make::Fit);
+    let bar = sheets_of(catalogue, Make::Bar);
+    let load = sheets_of(catalogue, Make::Load);
     let mut tally = Tally::default();
     for _ in 0..count {
-        tally.answers = tally.answers.wrapping_add(1);
-        read_once(catalogue, &mut tally);
+        tally.note(added(&fit));
+        tally.note(added(&bar));
+        tally.note(added(&load));
     }
     tally
 }
