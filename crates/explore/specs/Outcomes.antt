@@ -1,5 +1,5 @@
 -- What a turn of an exploration comes to. Assumes nothing.
-use Rattle.std.specs.Prelude.{◌≡◌, ℕ, List, ◌∷◌, length, take}
+use Rattle.std.specs.Prelude.{◌≡◌, ℕ, ◌+◌, List, ◌∷◌, length, take}
 use Rattle.subject.specs.Problem.{Problem}
 use Rattle.subject.specs.Boxes.{Box}
 use Rattle.subject.specs.Decisions.{Decision}
@@ -15,6 +15,13 @@ IfEmpty Empty A B = A
 IfEmpty Dry A B = B
 IfEmpty Split A B = B
 IfEmpty (Found p) A B = B
+
+-- how many boxes are left to explore after a turn, where there were some before
+abbrev pub Leaves : Outcome → ℕ → ℕ → Type 0
+Leaves Empty before after = after ≡ before
+Leaves Dry before after = before ≡ after + 1
+Leaves Split before after = after ≡ before + 1
+Leaves (Found p) before after = before ≡ after + 1
 
 -- what was found has an entry for every slot that a box covers
 abbrev pub Long : Outcome → Type 0

@@ -6,7 +6,7 @@ ghost use Rattle.subject.specs.Decisions.{Decision};
 ghost use Rattle.subject.specs.Plans.{Plan};
 ghost use Rattle.binder.specs.Meaning.{Binding};
 ghost use Rattle.explore.specs.Levels.{Returned};
-ghost use Rattle.explore.specs.Outcomes.{IfEmpty, Long, Turned};
+ghost use Rattle.explore.specs.Outcomes.{IfEmpty, Leaves, Long, Turned};
 ghost use Rattle.explore.specs.Rewound.{Rewound};
 ghost use Rattle.explore.specs.Exploring.{Exploring};
 ghost use Rattle.explore.specs.Stacks.{height, pending, lost_of, weight_of};
@@ -30,6 +30,7 @@ impl Stack {
         ensures less { IfEmpty result
             ((height self.old ≡ 0) × (self.new ≡ self.old) × (binder.new ≡ binder.old))
             (weight_of self.new < weight_of self.old) }
+        ensures left { Leaves result (height self.old) (height self.new) }
         ensures long { Long result }
     {
         let Some(mut slate) = self.next() else {

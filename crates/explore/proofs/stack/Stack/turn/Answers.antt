@@ -17,6 +17,7 @@ returns-then-not-has_open g c =
           turn_dry _ _ _ _ _ t.top (t.top - 1) _ _ _ _ c.args.slots _ _ high c.in-Some.ensures.1 c.settle.ensures P D G X m e v a
           c.drop_next.ensures.same c.drop_next.ensures.lost c.drop_next.ensures.top c.drop_next.ensures.undone (λ w. both_ways _ c.if-not-has_open.true (c.has_open.ensures.1 w));
       less = weight_drop _ _ t.top _ c.drop_next.ensures.same c.drop_next.ensures.top;
+      left = c.drop_next.ensures.top;
       long = tt;
     }
 
@@ -31,6 +32,7 @@ returns-in_default-loose g c =
           fewer.same fewer.lost fewer.top fewer.undone (g.B.Binder.proper c.args.binder.now) (c.has_open.ensures.0 c.if-not-has_open.false)
           c.settle.new.slate.long c.in_default-loose.ensures _ c.lay.ensures;
       less = weight_drop _ _ t.top _ fewer.same fewer.top;
+      left = fewer.top;
       long = c.lay.ensures.long;
     }
 
@@ -53,8 +55,9 @@ returns g c =
           c.split.ensures.top c.split.ensures.split d.1)
           (λ _ d. absurd (omega (arith, d.1, c.settle.ensures.framed.marks, a.levels.marks, a.room, c.split.ensures.top, c.split.new.self.tall.0)));
       less = c.split.ensures.less;
+      left = c.split.ensures.top;
       long = tt;
     }
 
 pub returns-in_default : goal.returns-in_default
-returns-in_default g c = record { law = λ P D G X m e v a. (exploring_over P D G X m _ _ _ _ c.in_default.ensures a, a); less = (c.in_default.ensures, refl, refl); long = tt }
+returns-in_default g c = record { law = λ P D G X m e v a. (exploring_over P D G X m _ _ _ _ c.in_default.ensures a, a); less = (c.in_default.ensures, refl, refl); left = refl; long = tt }
