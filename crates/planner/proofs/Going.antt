@@ -21,7 +21,7 @@ use Rattle.explore.specs.declared.stack.Stack.{Stack}
 use Rattle.explore.specs.declared.outcome.Outcome.{Outcome}
 use Rattle.explore.specs.declared.outcome.Outcome.TheVariants.{Empty, Dry, Split, Found}
 use Rattle.explore.proofs.Turning.{exploring_begins}
-use Rattle.planner.specs.Answers.{begins, nexts, ends}
+use Rattle.planner.specs.Answers.{begin_entry, next_entry, end_entry}
 use Rattle.planner.specs.States.{Saved, After}
 use Rattle.planner.specs.Walks.{At, Goes, Walking}
 use Rattle.planner.specs.declared.state.Planner.{Planner}
@@ -45,7 +45,7 @@ module _ {B : Type 0} {bound : Ghosts B} (meaning : B → Binding) (P : Problem)
   -- A walk begins.
   pub begun : (L : Log) (p : Planner B bound) (w : Walk B bound) (m : Binding) → w.planner.slots ≡ p.slots → w.planner.reach ≡ p.reach → w.planner.saved ≡ p.saved → w.planner.depth ≡ p.depth → w.planner.slate ≡ p.slate
       → w.state ≡ Fresh → m ≡ meaning p.binder → Noted m (meaning w.planner.binder) → height w.stack ≡ 1 → pending w.stack 0 ≡ opens p.slate.cells
-      → After meaning P L p → Walking meaning P (begins ∷ L) w
+      → After meaning P L p → Walking meaning P (begin_entry ∷ L) w
   begun L p w m es er ev ed el eb em noted one first a =
       let D = a.decisions in
       let st = a.stands in
@@ -83,7 +83,7 @@ module _ {B : Type 0} {bound : Ghosts B} (meaning : B → Binding) (P : Problem)
   }
 
   -- A memory that is too short is refused.
-  pub short_stays : (L : Log) (w : Walk B bound) (n : ℕ) (p : List ℕ) → n < w.planner.slots.count → Walking meaning P L w → Walking meaning P (nexts n p (Err ShortMemory) ∷ L) w
+  pub short_stays : (L : Log) (w : Walk B bound) (n : ℕ) (p : List ℕ) → n < w.planner.slots.count → Walking meaning P L w → Walking meaning P (next_entry n p (Err ShortMemory) ∷ L) w
   short_stays L w n p h a =
       let D = a.decisions in
       let r : Refuses P D (next n) 26 = next_short (let e = walk_slots D (given L) w a.goes in omega arith) in
@@ -97,7 +97,7 @@ module _ {B : Type 0} {bound : Ghosts B} (meaning : B → Binding) (P : Problem)
 
   -- There is no plan left.
   pub none_given : (L : Log) (w v : Walk B bound) (n : ℕ) (p : List ℕ) → w.planner.slots.count ≤ n → (a : Walking meaning P L w) → NoMore P a.decisions (given L) → Goes meaning P a.decisions (given L) v
-      → Walking meaning P (nexts n p (Ok NoPlan) ∷ L) v
+      → Walking meaning P (next_entry n p (Ok NoPlan) ∷ L) v
   none_given L w v n p h a no_more go =
       let D = a.decisions in
       let room : length P.sizes ≤ n = (let e = walk_slots D (given L) w a.goes in omega arith) in
@@ -111,7 +111,7 @@ module _ {B : Type 0} {bound : Ghosts B} (meaning : B → Binding) (P : Problem)
 
   -- The next plan is given.
   pub plan_given : (L : Log) (w v : Walk B bound) (n k : ℕ) (p : Plan) → w.planner.slots.count ≤ n → (a : Walking meaning P L w) → First P a.decisions (given L) p → Goes meaning P a.decisions (p ∷ given L) v
-      → Walking meaning P (nexts n p (Ok (ThePlan k)) ∷ L) v
+      → Walking meaning P (next_entry n p (Ok (ThePlan k)) ∷ L) v
   plan_given L w v n k p h a first go =
       let D = a.decisions in
       let room : length P.sizes ≤ n = (let e = walk_slots D (given L) w a.goes in omega arith) in
@@ -127,7 +127,7 @@ module _ {B : Type 0} {bound : Ghosts B} (meaning : B → Binding) (P : Problem)
   pub ended : (L : Log) (w : Walk B bound) (p : Planner B bound) → p.slots ≡ w.planner.slots → p.reach ≡ w.planner.reach → p.saved ≡ w.planner.saved → p.depth ≡ w.planner.depth → p.slate ≡ w.planner.slate
       → ((D : List Decision) (G : List Plan) (m : Binding) → Exploring P D G (opens w.planner.slate.cells) m (pending w.stack) (lost_of w.stack) (height w.stack) (meaning w.planner.binder)
       → Returned P (opens w.planner.slate.cells) m (meaning p.binder))
-      → Walking meaning P L w → After meaning P (ends ∷ L) p
+      → Walking meaning P L w → After meaning P (end_entry ∷ L) p
   ended L w p es er ev ed el leave a =
       let D = a.decisions in
       let go = a.goes in
@@ -192,7 +192,7 @@ module _ {B : Type 0} {bound : Ghosts B} (meaning : B → Binding) (w0 w v : Wal
   turn_split e = turn_on (λ P D G X m t. subst (λ x. Turned P D G X m x (pending v.stack) (lost_of v.stack) (height v.stack) (meaning v.planner.binder)) e t)
 
   -- no box was left to explore, so there is no plan left
-  pub turn_empty : r ≡ Empty → v.state ≡ Spent → (P : Problem) (L : Log) (n : ℕ) (p : List ℕ) → w0.planner.slots.count ≤ n → Walking meaning P L w0 → Walking meaning P (nexts n p (Ok NoPlan) ∷ L) v
+  pub turn_empty : r ≡ Empty → v.state ≡ Spent → (P : Problem) (L : Log) (n : ℕ) (p : List ℕ) → w0.planner.slots.count ≤ n → Walking meaning P L w0 → Walking meaning P (next_entry n p (Ok NoPlan) ∷ L) v
   turn_empty e spent P L n p room a =
       let D = a.decisions in
       let go' = was.goes P D (given L) a.goes in
@@ -204,7 +204,7 @@ module _ {B : Type 0} {bound : Ghosts B} (meaning : B → Binding) (w0 w v : Wal
 
   -- a plan was found
   pub turn_found : (k : ℕ) (p q : List ℕ) → r ≡ Found q → v.state ≡ AtPlan → (P : Problem) (L : Log) (n : ℕ) → w0.planner.slots.count ≤ n → p ≡ take w0.planner.slots.count q → Walking meaning P L w0
-      → Walking meaning P (nexts n p (Ok (ThePlan k)) ∷ L) v
+      → Walking meaning P (next_entry n p (Ok (ThePlan k)) ∷ L) v
   turn_found k p q e state P L n room same a =
       let D = a.decisions in
       let go' = was.goes P D (given L) a.goes in
@@ -222,7 +222,7 @@ pub turn_spent : {B : Type 0} {bound : Ghosts B} (meaning : B → Binding) (w0 w
     → ((P : Problem) (D : List Decision) (G : List Plan) (X : Box) (m : Binding) → length P.sizes ≡ w0.planner.slots.count → Covers P.sheets P.scope (masks_of w.planner.reach)
     → Exploring P D G X m (pending w.stack) (lost_of w.stack) (height w.stack) (meaning w.planner.binder) → Turned P D G X m r (pending v.stack) (lost_of v.stack) (height v.stack) (meaning v.planner.binder))
     → IfEmpty r ((height w.stack ≡ 0) × (v.stack ≡ w.stack) × (v.planner.binder ≡ w.planner.binder)) (weight_of v.stack < weight_of w.stack)
-    → v.state ≡ w.state → w.state ≡ Spent → (P : Problem) (L : Log) (n : ℕ) (p : List ℕ) → w0.planner.slots.count ≤ n → Walking meaning P L w0 → Walking meaning P (nexts n p (Ok NoPlan) ∷ L) v
+    → v.state ≡ w.state → w.state ≡ Spent → (P : Problem) (L : Log) (n : ℕ) (p : List ℕ) → w0.planner.slots.count ≤ n → Walking meaning P L w0 → Walking meaning P (next_entry n p (Ok NoPlan) ∷ L) v
 turn_spent meaning w0 w v r was es er ev ed el law less same spent P L n p room a = go r law less
   where
     none_left : height w.stack ≡ 0
@@ -231,7 +231,7 @@ turn_spent meaning w0 w v r was es er ev ed el law less same spent P L n p room 
     go : (x : Outcome) → ((P : Problem) (D : List Decision) (G : List Plan) (X : Box) (m : Binding) → length P.sizes ≡ w0.planner.slots.count → Covers P.sheets P.scope (masks_of w.planner.reach)
         → Exploring P D G X m (pending w.stack) (lost_of w.stack) (height w.stack) (meaning w.planner.binder) → Turned P D G X m x (pending v.stack) (lost_of v.stack) (height v.stack) (meaning v.planner.binder))
         → IfEmpty x ((height w.stack ≡ 0) × (v.stack ≡ w.stack) × (v.planner.binder ≡ w.planner.binder)) (weight_of v.stack < weight_of w.stack)
-        → Walking meaning P (nexts n p (Ok NoPlan) ∷ L) v
+        → Walking meaning P (next_entry n p (Ok NoPlan) ∷ L) v
     go Empty f l = turn_empty meaning w0 w v Empty was es er ev ed el f l refl (same ∙ spent) P L n p room a
     go Dry f l = absurd (no_weight_lem w.stack v.stack none_left l)
     go Split f l = absurd (no_weight_lem w.stack v.stack none_left l)

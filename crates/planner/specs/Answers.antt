@@ -16,23 +16,23 @@ abbrev pub shows : Result ℕ Refusal → Answer
 shows (Ok n) = bits n
 shows (Err e) = refused (number_of e)
 
-abbrev pub tries : ℕ → ℕ → Result ℕ Refusal → Entry
-tries s o r = record { call = try s o; answer = counts r }
+abbrev pub try_entry : ℕ → ℕ → Result ℕ Refusal → Entry
+try_entry s o r = record { call = try s o; answer = counts r }
 
-abbrev pub strikes : ℕ → ℕ → Result ℕ Refusal → Entry
-strikes s o r = record { call = strike s o; answer = counts r }
+abbrev pub strike_entry : ℕ → ℕ → Result ℕ Refusal → Entry
+strike_entry s o r = record { call = strike s o; answer = counts r }
 
-abbrev pub backs : Result ℕ Refusal → Entry
-backs r = record { call = back; answer = counts r }
+abbrev pub back_entry : Result ℕ Refusal → Entry
+back_entry r = record { call = back; answer = counts r }
 
-abbrev pub looks : ℕ → Result ℕ Refusal → Entry
-looks s r = record { call = look s; answer = shows r }
+abbrev pub look_entry : ℕ → Result ℕ Refusal → Entry
+look_entry s r = record { call = look s; answer = shows r }
 
-abbrev pub begins : Entry
-begins = record { call = begin; answer = done }
+abbrev pub begin_entry : Entry
+begin_entry = record { call = begin; answer = done }
 
-abbrev pub ends : Entry
-ends = record { call = end; answer = done }
+abbrev pub end_entry : Entry
+end_entry = record { call = end; answer = done }
 
 -- next answers a plan, which is p, or that there is none left
 abbrev pub gives : List ℕ → Result Step Refusal → Answer
@@ -40,8 +40,8 @@ gives p (Ok (Plan n)) = plan p
 gives p (Ok NoPlan) = none
 gives p (Err e) = refused (number_of e)
 
-abbrev pub nexts : ℕ → List ℕ → Result Step Refusal → Entry
-nexts n p r = record { call = next n; answer = gives p r }
+abbrev pub next_entry : ℕ → List ℕ → Result Step Refusal → Entry
+next_entry n p r = record { call = next n; answer = gives p r }
 
 -- What a plan memory holds after next, where there are n slots: where a plan was given its first n bytes are the
 -- plan's, and all others are as before.
@@ -51,7 +51,7 @@ written n (Ok NoPlan) before after = before
 written n (Err e) before after = before
 
 -- a plan that was given has n options
-abbrev pub Filled : ℕ → Result Step Refusal → Type 0
-Filled n (Ok (Plan k)) = k ≡ n
-Filled n (Ok NoPlan) = Unit {0}
-Filled n (Err e) = Unit {0}
+abbrev pub Sized : ℕ → Result Step Refusal → Type 0
+Sized n (Ok (Plan k)) = k ≡ n
+Sized n (Ok NoPlan) = Unit {0}
+Sized n (Err e) = Unit {0}

@@ -1,6 +1,6 @@
 // The planner's calls: try, strike, back and look.
 ghost use Rattle.std.specs.Prelude.{◌≡◌, MatchResult};
-ghost use Rattle.planner.specs.Answers.{tries, strikes, backs, looks};
+ghost use Rattle.planner.specs.Answers.{try_entry, strike_entry, back_entry, look_entry};
 ghost use Rattle.planner.specs.States.{Carries, Found, Shut, Counted};
 
 use crate::marks::{restore, save};
@@ -35,7 +35,7 @@ impl<B: Binder> Planner<B> {
     // Tries an option: closes every other option of its slot, and all that then has no support. Answers how many
     // options are open. At most sixteen tries stand at a time.
     pub fn try_option(&mut self, slot: usize, option: usize) -> Result<u32, Refusal>
-        ensures law { Carries B.Binder.meaning (tries slot option result) self.old self.new }
+        ensures law { Carries B.Binder.meaning (try_entry slot option result) self.old self.new }
         ensures counted { Counted result self.old self.new }
     {
         let option = self.open_option(slot, option)?;
@@ -60,7 +60,7 @@ impl<B: Binder> Planner<B> {
 
     // Strikes an option: closes it, and all that then has no support. Answers how many options are open.
     pub fn strike(&mut self, slot: usize, option: usize) -> Result<u32, Refusal>
-        ensures law { Carries B.Binder.meaning (strikes slot option result) self.old self.new }
+        ensures law { Carries B.Binder.meaning (strike_entry slot option result) self.old self.new }
         ensures counted { Counted result self.old self.new }
     {
         let option = self.open_option(slot, option)?;
@@ -77,7 +77,7 @@ impl<B: Binder> Planner<B> {
 
     // Takes back the newest try and every strike behind it. Answers how many options are open.
     pub fn back(&mut self) -> Result<u32, Refusal>
-        ensures law { Carries B.Binder.meaning (backs result) self.old self.new }
+        ensures law { Carries B.Binder.meaning (back_entry result) self.old self.new }
         ensures counted { Counted result self.old self.new }
     {
         if self.depth == 0 {
@@ -93,7 +93,7 @@ impl<B: Binder> Planner<B> {
 
     // The open options of a slot: bit o is one exactly where option o is open.
     pub fn look(&self, slot: usize) -> Result<u32, Refusal>
-        ensures { Carries B.Binder.meaning (looks slot result) self.now self.now }
+        ensures { Carries B.Binder.meaning (look_entry slot result) self.now self.now }
     {
         if slot >= self.slots.count {
             return Err(Refusal::NoSlot);

@@ -2,7 +2,7 @@
 ghost use Rattle.std.specs.Prelude.{◌≡◌, ℕ, ◌≤◌, ◌∷◌, ◌++◌, length, take, drop};
 ghost use Rattle.subject.specs.Problem.{Problem};
 ghost use Rattle.subject.specs.Logs.{Log};
-ghost use Rattle.planner.specs.Answers.{begins, nexts, ends, written, Filled};
+ghost use Rattle.planner.specs.Answers.{begin_entry, next_entry, end_entry, written, Sized};
 ghost use Rattle.planner.specs.States.{After};
 ghost use Rattle.planner.specs.Walks.{Walking, Refused};
 
@@ -25,7 +25,7 @@ fn write_plan(options: &[u8], memory: &mut [u8])
 impl<B: Binder> Planner<B> {
     // Begins a walk, which uses the planner up.
     pub fn begin(mut self) -> Walk<B>
-        ensures { (P : Problem) (L : Log) → After B.Binder.meaning P L self → Walking B.Binder.meaning P (begins ∷ L) result }
+        ensures { (P : Problem) (L : Log) → After B.Binder.meaning P L self → Walking B.Binder.meaning P (begin_entry ∷ L) result }
     {
         save(&mut self.binder);
         let stack = Stack::new(self.slate);
@@ -41,9 +41,9 @@ impl<B: Binder> Walk<B> {
     // Goes on to the next plan and writes it to the memory, slot s's option to byte s; other bytes stay. With no
     // plan left it writes nothing, now and at each later call.
     pub fn next(&mut self, memory: &mut [u8]) -> Result<Step, Refusal>
-        ensures law { (P : Problem) (L : Log) → Walking B.Binder.meaning P L self.old → Walking B.Binder.meaning P (nexts (length memory.old) (take self.old.planner.slots.count memory.new) result ∷ L) self.new }
+        ensures law { (P : Problem) (L : Log) → Walking B.Binder.meaning P L self.old → Walking B.Binder.meaning P (next_entry (length memory.old) (take self.old.planner.slots.count memory.new) result ∷ L) self.new }
         ensures wrote { memory.new ≡ written self.old.planner.slots.count result memory.old memory.new }
-        ensures filled { Filled self.old.planner.slots.count result }
+        ensures sized { Sized self.old.planner.slots.count result }
         ensures refused { Refused result (length memory.old) self.old self.new }
         ensures slots { self.new.planner.slots ≡ self.old.planner.slots }
     {
@@ -76,7 +76,7 @@ impl<B: Binder> Walk<B> {
 
     // Ends the walk and gives the planner back.
     pub fn end(self) -> Planner<B>
-        ensures { (P : Problem) (L : Log) → Walking B.Binder.meaning P L self → After B.Binder.meaning P (ends ∷ L) result }
+        ensures { (P : Problem) (L : Log) → Walking B.Binder.meaning P L self → After B.Binder.meaning P (end_entry ∷ L) result }
     {
         let Walk {
             mut planner,

@@ -9,7 +9,7 @@ use Rattle.subject.specs.Problem.{Problem}
 use Rattle.subject.specs.Logs.{Log, next, plan}
 use Rattle.binder.specs.declared.binders.Binder.{Ghosts}
 use Rattle.binder.specs.Meaning.{Binding}
-use Rattle.planner.specs.Answers.{nexts, written}
+use Rattle.planner.specs.Answers.{next_entry, written}
 use Rattle.planner.specs.Walks.{Walking}
 use Rattle.planner.specs.declared.state.Walk.{Walk}
 use Rattle.planner.specs.declared.step.Step.{Step}
@@ -23,13 +23,13 @@ plan_front n x zeros memory p f e h =
     f ∙ (ap (λ y. take n (y ++ drop n zeros)) e ∙ take_at (take n memory) (drop n zeros) n long)
 
 module _ {B : Type 0} {bound : Ghosts B} (meaning : B → Binding) (w v : Walk B bound) (m m' : List ℕ) (count : ℕ) (x : Step)
-    (law : (P : Problem) (L : Log) → Walking meaning P L w → Walking meaning P (nexts (length m) (take count m') (Ok x) ∷ L) v) (wrote : m' ≡ written count (Ok x) m m') where
+    (law : (P : Problem) (L : Log) → Walking meaning P L w → Walking meaning P (next_entry (length m) (take count m') (Ok x) ∷ L) v) (wrote : m' ≡ written count (Ok x) m m') where
   pub stepped_plan : (p : GivenPlan) (n : ℕ) → x ≡ Plan n → n ≡ count → n ≤ length m' → chosen p ≡ take n m' → Replied meaning (Some Next) (Ok (GivePlan p)) (Inside w) (Inside v) m m'
   stepped_plan p n e same within front =
       let is : chosen p ≡ take count m' = front ∙ ap (λ k. take k m') same in
       let long : length (chosen p) ≡ count = ap length front ∙ rw length-take (omega arith) in
-      let says : (P : Problem) (L : Log) → Walking meaning P L w → Walking meaning P (nexts (length m) (take count m') (Ok (Plan n)) ∷ L) v =
-      λ P L a. subst (λ y. Walking meaning P (nexts (length m) (take count m') (Ok y) ∷ L) v) e (law P L a) in
+      let says : (P : Problem) (L : Log) → Walking meaning P L w → Walking meaning P (next_entry (length m) (take count m') (Ok (Plan n)) ∷ L) v =
+      λ P L a. subst (λ y. Walking meaning P (next_entry (length m) (take count m') (Ok y) ∷ L) v) e (law P L a) in
       record {
         memory = wrote ∙ ap (λ y. written count (Ok y) m m') e ∙ (λ i. sym is i ++ drop (sym long i) m);
         enters = λ P L a. subst (λ q. Walking meaning P (record { call = next (length m); answer = plan q } ∷ L) v) (sym is) (says P L a);
@@ -39,6 +39,6 @@ module _ {B : Type 0} {bound : Ghosts B} (meaning : B → Binding) (w v : Walk B
   pub stepped_none : x ≡ NoPlan → Replied meaning (Some Next) (Ok GiveNone) (Inside w) (Inside v) m m'
   stepped_none e = record {
     memory = wrote ∙ ap (λ y. written count (Ok y) m m') e;
-    enters = λ P L a. subst (λ y. Walking meaning P (nexts (length m) (take count m') (Ok y) ∷ L) v) e (law P L a);
+    enters = λ P L a. subst (λ y. Walking meaning P (next_entry (length m) (take count m') (Ok y) ∷ L) v) e (law P L a);
     fits = λ P L a. a.within;
   }

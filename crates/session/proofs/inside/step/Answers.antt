@@ -1,5 +1,5 @@
 use Rattle.std.proofs.Common.{◌≤◌, length, Ok, subst, rules}
-use Rattle.planner.specs.Answers.{Filled}
+use Rattle.planner.specs.Answers.{Sized}
 use Rattle.std.proofs.lemmas.Result.{err_from_is_err_and}
 use Rattle.session.proofs.Plans.{stepped_plan, stepped_none}
 use Rattle.session.proofs.inside.step.Goals as goal
@@ -15,7 +15,7 @@ returns-in-Plan g c =
     let done = c.in_ok-count.ensures in
     let count = c.args.walk.now.planner.slots.count in
     let within : c.in-Plan.count ≤ length c.next.new.memory = search rules in
-    let long = subst (λ x. Filled count (Ok x)) c.in-Plan.is done.filled in
+    let long = subst (λ x. Sized count (Ok x)) c.in-Plan.is done.sized in
     stepped_plan _ _ _ _ _ count c.in_ok-count.field-0 done.law done.wrote c.plan_in.result c.in-Plan.count c.in-Plan.is long within c.plan_in.ensures
 
 pub returns-in-NoPlan : goal.returns-in-NoPlan

@@ -30,7 +30,7 @@ returns-in_default-Found g c =
       law = λ P L a.
           turn_found _ _ _ _ _ c.turns.invariant.0 refl refl refl refl refl c.turn-outcome.ensures.law c.turn-outcome.ensures.less count _ plan c.in_default-Found.is-1 refl P L _ (omega (arith, c.if-memory-count.false)) front a;
       wrote = wrote ∙ ap (λ x. x ++ drop count c.args.memory.now) (sym front);
-      filled = refl;
+      sized = refl;
       refused = omega (arith, c.if-memory-count.false);
       slots = c.turns.invariant.0.slots;
     }
