@@ -67,7 +67,11 @@ fn show(rt: &HostRuntime, name: &str, job: Job, rows: bool, count: u32) -> anyho
     } else {
         done(job, &catalogue, count)
     };
-    let answers = if rows { u64::from(count) } else { tally.answers };
+    let answers = if rows {
+        u64::from(count)
+    } else {
+        tally.answers
+    };
     let checksum = tally.checksum;
     let what = if rows { "readings" } else { "answers" };
     println!(rt; "{name}: {answers} {what}, checksum {checksum}")?;
