@@ -36,7 +36,7 @@ pub record Summed (z : ℤ) : Type 0 where
   pub high : z ≤ℤ pos 262144
 
 -- such a total without one of them, with room
-pub record Fair (z : ℤ) : Type 0 where
+pub record Roomy (z : ℤ) : Type 0 where
   pub low : negsuc 999999 ≤ℤ z
   pub high : z ≤ℤ pos 1000000
 

@@ -3,7 +3,7 @@ ghost use Rattle.std.specs.Prelude.{◌≡◌, ℕ, ◌<◌, ◌≤◌, length, 
 ghost use Rattle.load.specs.Joins.{total};
 ghost use Rattle.load.specs.Sums.{sums};
 ghost use Rattle.load.specs.Tables.{weights_in};
-ghost use Rattle.load.specs.Weights.{Small, Summed, Fair, Allowed, Masked, MaskedAt, Supports};
+ghost use Rattle.load.specs.Weights.{Small, Summed, Roomy, Allowed, Masked, MaskedAt, Supports};
 
 use crate::leasts::leasts_of;
 use crate::options::Options;
@@ -29,7 +29,7 @@ fn total_of(leasts: &[i32]) -> i32
 // The open options of a cell that total at most the cap with the rest. The crate `bar` gathers a mask by another test;
 // one function over a test would be no plainer, since it would need a law about the test.
 fn mask_of(weights: &Weights, rest: i32, cap: i32, cell: u32) -> u32
-    requires { Fair rest }
+    requires { Roomy rest }
     ensures { Masked (Allowed weights.now.amounts rest «cap» cell) result }
 {
     let mut mask = 0;

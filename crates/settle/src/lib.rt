@@ -1,4 +1,5 @@
-// Settles a box: shows it to the sheets of a binder until nothing closes.
+// Settles a box: shows it to the sheets of a binder until nothing closes. A lost slot is one that lost an option since the
+// sheets that name it were last shown the box.
 #![tactic(auto)]
 
 ghost use Rattle.std.specs.Prelude.{Decides};
@@ -31,8 +32,8 @@ fn alive(slate: &OptionBox, slots: usize) -> bool
     (0..slots).all(|slot| slate.has_open(slot))
 }
 
-// Shows the sheets that name a lost slot, then those that name a slot which lost an option by that, and so on, until
-// nothing closes. What is open has to be held by the other sheets, so that they need not be asked. Where a slot has no
+// Shows the sheets that name a lost slot, then those that name a slot which is lost by that, and so on, until nothing
+// closes. What is open has to be held by the other sheets, so that they need not be asked. Where a slot has no
 // open option left, no supported box is, and the whole box is closed.
 pub fn settle<B: Binder>(
     binder: &mut B,
