@@ -1,5 +1,5 @@
 -- An exploration as it begins, takes a turn and ends. Assumes nothing.
-use Rattle.std.proofs.Common.{◌≡◌, ℕ, suc, ◌+◌, ◌<◌, ◌≤◌, min, Bool, true, false, cond, nat_lt, T, ltb→lt, lt→ltb, refl, List, [], ◌∷◌, length, get_or, take, sym, ap, ◌∙◌, subst, subst₂, ⊎_elim, arith, length-take, get_or-take}
+use Rattle.std.proofs.Common.{◌≡◌, ℕ, suc, ◌+◌, ◌<◌, ◌≤◌, min, cond, nat_lt, T, refl, List, [], ◌∷◌, length, get_or, take, sym, ap, ◌∙◌, subst, subst₂, ⊎_elim, arith, length-take, get_or-take}
 use Rattle.std.proofs.lemmas.Bool.{cases_lt}
 use Rattle.subject.specs.Problem.{Problem, Placed}
 use Rattle.subject.specs.Boxes.{Box, Inside, Supported, LargestIn}
@@ -15,6 +15,7 @@ use Rattle.binder.specs.Meaning.{Binding, Proper, Noted}
 use Rattle.settle.specs.Keeping.{Has, Keeps, Based}
 use Rattle.settle.specs.Reach.{Covers, Resting}
 use Rattle.settle.specs.Settled.{Settled}
+use Rattle.settle.proofs.Scopes.{if_lt, if_not_lt}
 use Rattle.settle.proofs.Keeping.{inside_cells, keeps_less, backed_largest, backed_largest_in, based_same, covers_has, resting_based}
 use Rattle.explore.specs.Pending.{Lies, Pending}
 use Rattle.explore.specs.Narrow.{Sole}
@@ -27,20 +28,6 @@ use Rattle.explore.proofs.Plans.{lies_inside, lies_settled, settled_supported, s
 use Rattle.explore.proofs.Waiting.{below_or, pending_one, pending_none, pending_plan, pending_split, new_in}
 use Rattle.explore.proofs.Leveling.{has_sheets, framed_rewound, levels_begin, levels_back, levels_split}
 use Rattle.explore.proofs.Stacking.{sole_from}
-
-if_lt : {A : Type 0} (a b : ℕ) (x y : A) → a < b → cond (nat_lt a b) x y ≡ x
-if_lt a b x y h = go (nat_lt a b) (lt→ltb a b h)
-  where
-    go : (t : Bool) → T t → cond t x y ≡ x
-    go true h = refl
-    go false h = absurd h
-
-if_not_lt : {A : Type 0} (a b : ℕ) (x y : A) → b ≤ a → cond (nat_lt a b) x y ≡ y
-if_not_lt a b x y h = go (nat_lt a b) (λ t. let k = ltb→lt a b t in absurd (omega arith))
-  where
-    go : (t : Bool) → (T t → ⊥) → cond t x y ≡ y
-    go true f = absurd (f tt)
-    go false f = refl
 
 -- An exploration begins: the binder marks its level, and the one box to be explored is the largest.
 pub exploring_begins : (P : Problem) (D : List Decision) (X : Box) (m n : Binding) (K : ℕ → Box) (A : ℕ → ℕ) → 0 < length P.sizes → m.marks + 49 ≤ 72

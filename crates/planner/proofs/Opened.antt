@@ -28,6 +28,7 @@ use Rattle.settle.specs.Keeping.{Has, Keeps}
 use Rattle.settle.specs.Reach.{masks_of, Covers, Resting}
 use Rattle.settle.specs.Settled.{Settled}
 use Rattle.settle.proofs.Keeping.{keeps_same, has_framed}
+use Rattle.settle.proofs.Scopes.{covers_same}
 use Rattle.settle.proofs.Tight.{framed_none}
 use Rattle.planner.specs.Opening.{slots_said, slots_in, posed, Below, AllBelow, Started}
 use Rattle.planner.specs.States.{After}
@@ -191,7 +192,7 @@ opened_at_lem meaning p m0 m sizes cleared first es covers d small some =
       standing = refl;
       stands = record {
         sizes = sym es;
-        covers = record { each = λ i j hi hj. subst (λ x. Bit (get_or (masks_of p.reach) i 0) (get_or x j 0)) (cleared.sheets.scope i) (covers.each i j (subst (λ x. i < x) (sym cleared.sheets.count) hi) (subst (λ x. j < length x) (sym (cleared.sheets.scope i)) hj)) };
+        covers = covers_same m.count m0.count m.scope m0.scope (masks_of p.reach) (sym cleared.sheets.count) (λ i. sym (cleared.sheets.scope i)) covers;
         some = some;
         has = has_framed P m k has started.framed;
         largest = started.largest small P refl has all;

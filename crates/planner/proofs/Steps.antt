@@ -185,8 +185,8 @@ module _ {B : Type 0} {bound : Ghosts B} (meaning : B → Binding) (P : Problem)
       let opens : Open P D s o = (open_is D p s o st).0 found.is in
       let cut = closed_cut p.slate.cells b s o shut in
       let low : s < 48 = omega (arith, found.slot, p.slots.few) in
-      let big = decided_largest D (struck s o) p st m k b q.slate.cells st.has st.keeps opens.1.placed cut (masks_of p.reach) lost st.covers
-      (λ t r ne z. (cut t r).1 (z, λ f. ne (subst (Cells.Bit lost) (sym f.0) (lone.here low)))) done in
+      let off : (t r : ℕ) → (Cells.Bit lost t → ⊥) → T (Cells.opens p.slate.cells t r) → T (Cells.opens b t r) = λ t r ne z. (cut t r).1 (z, λ f. ne (subst (Cells.Bit lost) (sym f.0) (lone.here low))) in
+      let big = decided_largest D (struck s o) p st m k b q.slate.cells st.has st.keeps opens.1.placed cut (masks_of p.reach) lost st.covers off done in
       answered L p q (strike s o) (count n) a refl refl (strike_done opens (_, big, e)) (λ i r. free_strike P D s o i opens r)
       (record {
         sizes = st.sizes ∙ ap (λ w. take w.count w.sizes) (sym es);
@@ -194,8 +194,7 @@ module _ {B : Type 0} {bound : Ghosts B} (meaning : B → Binding) (P : Problem)
         some = st.some;
         has = has_framed P m k st.has done.framed;
         largest = big;
-        keeps = decided_keeps D (struck s o) p st m k b q.slate.cells st.has st.keeps opens.1.placed cut (masks_of p.reach) lost st.covers
-            (λ t r ne z. (cut t r).1 (z, λ f. ne (subst (Cells.Bit lost) (sym f.0) (lone.here low)))) done;
+        keeps = decided_keeps D (struck s o) p st m k b q.slate.cells st.has st.keeps opens.1.placed cut (masks_of p.reach) lost st.covers off done;
         marks = done.framed.marks ∙ st.marks ∙ sym ed;
         saved = subst₂ (λ x y. Saved P D x k.marked y) (sym ev) (sym ed) (saved_marked P D p.saved m.marked k.marked p.depth (λ i s' lt. done.framed.marked i s') st.saved);
       })
@@ -215,8 +214,8 @@ module _ {B : Type 0} {bound : Ghosts B} (meaning : B → Binding) (P : Problem)
       let has : Has P m = record { sheets = noted.sheets.count ∙ st.has.sheets; scope = λ i. noted.sheets.scope i ∙ st.has.scope i } in
       let keeps : Keeps P (opens p.slate.cells) m.kept = keeps_same P _ _ _ noted.kept st.keeps in
       let low : s < 48 = omega (arith, found.slot, p.slots.few) in
-      let big = decided_largest D (tried s o) p st m k b q.slate.cells has keeps shows.1.placed cut (masks_of p.reach) lost st.covers
-      (λ t r ne z. (cut t r).1 (z, λ f. ne (subst (Cells.Bit lost) (sym f.0) (lone.here low)))) done in
+      let off : (t r : ℕ) → (Cells.Bit lost t → ⊥) → T (Cells.opens p.slate.cells t r) → T (Cells.opens b t r) = λ t r ne z. (cut t r).1 (z, λ f. ne (subst (Cells.Bit lost) (sym f.0) (lone.here low))) in
+      let big = decided_largest D (tried s o) p st m k b q.slate.cells has keeps shows.1.placed cut (masks_of p.reach) lost st.covers off done in
       let few : tries D < 16 = omega (arith, depth_is D p st) in
       let table : List OptionBox = set p.saved p.depth p.slate in
       let here : cells_at table p.depth ≡ p.slate.cells = cells_same p.saved p.depth p.slate (let y = p.long in omega arith) in
@@ -236,8 +235,7 @@ module _ {B : Type 0} {bound : Ghosts B} (meaning : B → Binding) (P : Problem)
         some = st.some;
         has = has_framed P m k has done.framed;
         largest = big;
-        keeps = decided_keeps D (tried s o) p st m k b q.slate.cells has keeps shows.1.placed cut (masks_of p.reach) lost st.covers
-            (λ t r ne z. (cut t r).1 (z, λ f. ne (subst (Cells.Bit lost) (sym f.0) (lone.here low)))) done;
+        keeps = decided_keeps D (tried s o) p st m k b q.slate.cells has keeps shows.1.placed cut (masks_of p.reach) lost st.covers off done;
         marks = done.framed.marks ∙ noted.marks ∙ ap (λ x. x + 1) st.marks ∙ sym ed;
         saved = subst₂ (λ x y. Saved P (tried s o ∷ D) x k.marked y) (sym ev) (sym ed) saves;
       })

@@ -43,7 +43,11 @@ pub record Walking {B : Type 0} {bound : Ghosts B} (meaning : B → Binding) (P 
   pub standing : Standing P (calls L) decisions
   pub goes : Goes meaning P decisions (given L) w
 
+-- how many slots a plan of the walk has
+abbrev pub plan_slots : {B : Type 0} {bound : Ghosts B} → Walk B bound → ℕ
+plan_slots w = w.planner.slots.count
+
 -- next refuses exactly a plan memory that is shorter than the number of slots, and then leaves the walk as it was
 abbrev pub Refused : {B : Type 0} {bound : Ghosts B} → Result Step Refusal → ℕ → Walk B bound → Walk B bound → Type 0
-Refused (Ok x) n before after = before.planner.slots.count ≤ n
-Refused (Err e) n before after = (e ≡ ShortMemory) × (n < before.planner.slots.count) × (after ≡ before)
+Refused (Ok x) n before after = plan_slots before ≤ n
+Refused (Err e) n before after = (e ≡ ShortMemory) × (n < plan_slots before) × (after ≡ before)

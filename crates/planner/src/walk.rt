@@ -4,7 +4,7 @@ ghost use Rattle.subject.specs.Problem.{Problem};
 ghost use Rattle.subject.specs.Logs.{Log};
 ghost use Rattle.planner.specs.Answers.{begin_entry, next_entry, end_entry, written, Sized};
 ghost use Rattle.planner.specs.States.{After};
-ghost use Rattle.planner.specs.Walks.{Walking, Refused};
+ghost use Rattle.planner.specs.Walks.{Walking, plan_slots, Refused};
 
 use crate::marks::save;
 use crate::state::{Planner, Walk};
@@ -41,11 +41,11 @@ impl<B: Binder> Walk<B> {
     // Goes on to the next plan and writes it to the memory, slot s's option to byte s; other bytes stay. With no
     // plan left it writes nothing, now and at each later call.
     pub fn next(&mut self, memory: &mut [u8]) -> Result<Step, Refusal>
-        ensures law { (P : Problem) (L : Log) → Walking B.Binder.meaning P L self.old → Walking B.Binder.meaning P (next_entry (length memory.old) (take self.old.planner.slots.count memory.new) result ∷ L) self.new }
-        ensures wrote { memory.new ≡ written self.old.planner.slots.count result memory.old memory.new }
-        ensures sized { Sized self.old.planner.slots.count result }
+        ensures law { (P : Problem) (L : Log) → Walking B.Binder.meaning P L self.old → Walking B.Binder.meaning P (next_entry (length memory.old) (take (plan_slots self.old) memory.new) result ∷ L) self.new }
+        ensures wrote { memory.new ≡ written (plan_slots self.old) result memory.old memory.new }
+        ensures sized { Sized (plan_slots self.old) result }
         ensures refused { Refused result (length memory.old) self.old self.new }
-        ensures slots { self.new.planner.slots ≡ self.old.planner.slots }
+        ensures slots { plan_slots self.new ≡ plan_slots self.old }
     {
         let count = self.planner.slots.count;
         if memory.len() < count {

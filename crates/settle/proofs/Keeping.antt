@@ -1,10 +1,11 @@
 -- From showings to the largest supported box of every problem that the binder serves. Assumes nothing.
-use Rattle.std.proofs.Common.{◌≡◌, ℕ, ◌<◌, Bool, T, List, length, get_or, sym, ap, ◌∙◌, subst}
+use Rattle.std.proofs.Common.{◌≡◌, ℕ, ◌<◌, Bool, T, ◌↔◌, List, length, get_or, sym, ap, ◌∙◌, subst}
 use Rattle.subject.specs.Problem.{Problem, Real, Placed}
 use Rattle.subject.specs.Boxes.{Box, Inside, Fits, Supported, LargestIn}
 use Rattle.subject.proofs.Largest.{Left, all_held}
 use Rattle.boxes.specs.Boxes as Cells
 use Rattle.subject.specs.Decisions.{Decision, Largest}
+use Rattle.subject.specs.Decisions as Deciding
 use Rattle.boxes.specs.Boxes.{Open, opens, Within, Bit}
 use Rattle.boxes.specs.Slots.{Apart}
 use Rattle.boxes.proofs.Counting.{opens_is}
@@ -12,6 +13,7 @@ use Rattle.binder.specs.Meaning.{Binding, Proper, Held, Alike}
 use Rattle.settle.specs.Keeping.{Has, Keeps, Framed, Backed, Based}
 use Rattle.settle.specs.Reach.{Covers, Resting}
 use Rattle.settle.specs.Settled.{Settled, Upheld, Tight, Alive}
+use Rattle.settle.proofs.Scopes.{covers_same}
 use Rattle.settle.proofs.Tight.{resting_all}
 
 pub keeps_less : (P : Problem) (X Y : Box) (k : ℕ → List ℕ → Bool) → Inside Y X → Keeps P X k → Keeps P Y k
@@ -101,28 +103,24 @@ settled_same m k masks lost slots a e all rests alive =
 
 -- ---- sheets that need not be asked
 
--- the largest supported box is backed
-pub backed_largest : (P : Problem) (D : List Decision) (X : Box) → Largest P D X → Backed P X
-backed_largest P D X big s o k i t nm =
+-- a box that opens what some supported boxes open is backed
+backed_by : (P : Problem) (Y : Box) (Q : Box → Type 0) → ((s o : ℕ) → T (Y s o) ↔ ((Z : Box) × Supported P Z × Q Z × T (Z s o))) → Backed P Y
+backed_by P Y Q big s o k i t nm =
     let y = (big s o).0 t in
     let h = y.1.held s o k i y.3 nm in
     (h.0, h.1, (h.2.0, λ j lt. (big _ _).1 (y.0, y.1, y.2, h.2.1 j lt)), h.3)
 
+pub backed_largest : (P : Problem) (D : List Decision) (X : Box) → Largest P D X → Backed P X
+backed_largest P D X = backed_by P X (Deciding.Within D)
+
 pub backed_largest_in : (P : Problem) (X Y : Box) → LargestIn P X Y → Backed P Y
-backed_largest_in P X Y big s o k i t nm =
-    let y = (big s o).0 t in
-    let h = y.1.held s o k i y.3 nm in
-    (h.0, h.1, (h.2.0, λ j lt. (big _ _).1 (y.0, y.1, y.2, h.2.1 j lt)), h.3)
+backed_largest_in P X Y = backed_by P Y (λ Z. Inside Z X)
 
 pub based_same : (P : Problem) (X : Box) (set : ℕ) → Backed P X → Based P X X set
 based_same P X set backed = record { inside = λ s o t. t; apart = λ s o ne t. t; backed = backed }
 
 pub covers_has : (P : Problem) (m : Binding) (masks : List ℕ) → Has P m → Covers P.sheets P.scope masks → Covers m.count m.scope masks
-covers_has P m masks has c = record {
-  each = λ k p hk hp.
-      let e = has.scope k in
-      subst (λ x. Bit (get_or masks k 0) (get_or x p 0)) (sym e) (c.each k p (subst (λ x. k < x) has.sheets hk) (subst (λ x. p < length x) e hp));
-}
+covers_has P m masks has = covers_same P.sheets m.count P.scope m.scope masks has.sheets has.scope
 
 -- Sheets that name no slot of the set hold what is open, since they did in the box that it is based on.
 pub resting_based : (P : Problem) (m : Binding) (masks b : List ℕ) (Z : Box) (set : ℕ) → Has P m → Keeps P Z m.kept → Covers m.count m.scope masks → Based P Z (opens b) set

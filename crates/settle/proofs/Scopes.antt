@@ -16,7 +16,8 @@ pub record Partly (m : Binding) (k n set : ℕ) : Type 0 where
   pub only : (t : ℕ) → Bit set t → (k < m.count) × (p : ℕ) × (p < n) × (p < length (m.scope k)) × (get_or (m.scope k) p 0 ≡ t)
   pub each : (p : ℕ) → k < m.count → p < n → p < length (m.scope k) → Bit set (get_or (m.scope k) p 0)
 
-no_bit : (t : ℕ) → Bit 0 t → ⊥
+-- no slot is in the empty set
+pub no_bit : (t : ℕ) → Bit 0 t → ⊥
 unfolding Bit
 no_bit t x = absurd (let y : ◌≡◌ {A = ℕ} 0 1 = sym (bit_at-zero t) ∙ x in omega arith)
 
@@ -50,14 +51,27 @@ named_past m k h = record { only = λ t x. absurd (no_bit t x); each = λ p hk h
 pub covers_named : (m : Binding) (masks : List ℕ) → ((k : ℕ) → Named m k (get_or masks k 0)) → Covers m.count m.scope masks
 covers_named m masks named = record { each = λ k p hk hp. (named k).each p hk hp }
 
+-- the same scopes have the same slots
+pub covers_same : (n o : ℕ) (scope scope' : ℕ → List ℕ) (masks : List ℕ) → o ≡ n → ((k : ℕ) → scope' k ≡ scope k) → Covers n scope masks → Covers o scope' masks
+covers_same n o scope scope' masks e f c = record {
+  each = λ k p hk hp. subst (λ x. Bit (get_or masks k 0) (get_or x p 0)) (sym (f k)) (c.each k p (subst (λ x. k < x) e hk) (subst (λ x. p < length x) (f k) hp));
+}
+
 -- ---- the questions
 
-if_lt : {A : Type 0} (a b : ℕ) (x y : A) → a < b → cond (nat_lt a b) x y ≡ x
+pub if_lt : {A : Type 0} (a b : ℕ) (x y : A) → a < b → cond (nat_lt a b) x y ≡ x
 if_lt a b x y h = go (nat_lt a b) (lt→ltb a b h)
   where
     go : (t : Bool) → T t → cond t x y ≡ x
     go true h = refl
     go false h = absurd h
+
+pub if_not_lt : {A : Type 0} (a b : ℕ) (x y : A) → b ≤ a → cond (nat_lt a b) x y ≡ y
+if_not_lt a b x y h = go (nat_lt a b) (λ t. let k = ltb→lt a b t in absurd (omega arith))
+  where
+    go : (t : Bool) → (T t → ⊥) → cond t x y ≡ y
+    go true f = absurd (f tt)
+    go false f = refl
 
 -- the number of positions of a sheet that is there; none where it is not
 pub positions : (m : Binding) (s n : ℕ) (r : Result ℕ Refusal) → r ≡ arity_of m s → n ≡ result_unwrap_or r 0 → s < m.count → n ≡ length (m.scope s)

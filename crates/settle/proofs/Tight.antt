@@ -1,7 +1,6 @@
 -- A settling on its way: what one showing, a round and rounds in a row do. Assumes nothing.
 use Rattle.std.proofs.Common.{◌≡◌, ℕ, zero, suc, ◌+◌, ◌<◌, T, ◌⊎◌, List, [], ◌∷◌, length, get_or, sym, refl, ◌∙◌, subst, inl, inr, ⊎_elim, arith}
 use Rattle.std.proofs.lemmas.Bool.{cases_eq}
-use Rattle.std.proofs.lemmas.Nat.Bits.{bit_at-zero}
 use Rattle.subject.specs.Boxes as Subject
 use Rattle.subject.specs.Boxes.{Box, opened}
 use Rattle.subject.proofs.Bits as Number
@@ -13,6 +12,7 @@ use Rattle.binder.specs.Meaning.{Binding, Held, Shown, Alike}
 use Rattle.settle.specs.Keeping.{Framed}
 use Rattle.settle.specs.Reach.{Covers, Resting}
 use Rattle.settle.specs.Settled.{Under, Upheld, Tight, Passed}
+use Rattle.settle.proofs.Scopes.{no_bit}
 
 abbrev In : List ℕ → ℕ → Type 0
 In xs t = (p : ℕ) × (p < length xs) × (get_or xs p 0 ≡ t)
@@ -144,13 +144,6 @@ passed_spared m n masks lost a c s hs was apart = record {
       (cases_eq t s);
 }
 
-pub covers_framed : (m n : Binding) (masks : List ℕ) → Framed m n → Covers m.count m.scope masks → Covers n.count n.scope masks
-covers_framed m n masks f c = record {
-  each = λ k p hk hp.
-      let e = f.sheets.scope k in
-      subst (λ x. Bit (get_or masks k 0) (get_or x p 0)) (sym e) (c.each k p (subst (λ x. k < x) f.sheets.count hk) (subst (λ x. p < length x) e hp));
-}
-
 -- After a round the sheets hold what is open that name none of the slots which changed in it.
 pub resting_on : (m n : Binding) (masks : List ℕ) (lost new : ℕ) (b c : List ℕ) → length b ≡ 48 → Passed m n masks lost b c m.count → Changed c b 48 new → Covers m.count m.scope masks
     → Resting m masks b lost → Resting n masks c new
@@ -171,10 +164,6 @@ resting_on m n masks lost new b c long passed changed covers rest = record {
       record { list = w.list; keeps = passed.tight.still s w.list w.keeps fits; fits = subst (λ x. Fits c x w.list) (sym e) fits; holds = w.holds };
 }
 
-no_bit_lem : (t : ℕ) → Bit 0 t → ⊥
-unfolding Bit
-no_bit_lem t x = absurd (let y : ◌≡◌ {A = ℕ} 0 1 = sym (bit_at-zero t) ∙ x in omega arith)
-
 -- nothing changed any more: every sheet holds what is open
 pub resting_all : (m n : Binding) (masks b c : List ℕ) → Tight m n b c → Resting n masks c 0
     → (s p o : ℕ) → s < m.count → p < length (m.scope s) → Open c (get_or (m.scope s) p 0) o → Held m c s p o
@@ -182,7 +171,7 @@ unfolding Apart
 resting_all m n masks b c one rest s p o hs hp h =
     let e : n.scope s ≡ m.scope s = one.framed.sheets.scope s in
     let w : Held n c s p o =
-    rest.held s p o (subst (λ x. s < x) (sym one.framed.sheets.count) hs) (subst (λ x. p < length x) (sym e) hp) (λ t x y. no_bit_lem t y) (subst (λ x. Open c (get_or x p 0) o) (sym e) h) in
+    rest.held s p o (subst (λ x. s < x) (sym one.framed.sheets.count) hs) (subst (λ x. p < length x) (sym e) hp) (λ t x y. no_bit t y) (subst (λ x. Open c (get_or x p 0) o) (sym e) h) in
     record { list = w.list; keeps = one.none_added s w.list w.keeps; fits = subst (λ x. Fits c x w.list) e w.fits; holds = w.holds }
 
 -- a round in which something changed leaves less open

@@ -3,6 +3,7 @@
 #![tactic(auto)]
 
 ghost use Rattle.std.specs.Prelude.{Decides};
+ghost use Rattle.settle.specs.Reach.{masks_of};
 ghost use Rattle.settle.specs.Settled.{Settled, Passed, Alive};
 
 mod naming;
@@ -14,7 +15,7 @@ use boxes::OptionBox;
 
 // Shows each sheet once that names a lost slot.
 fn round<B: Binder>(binder: &mut B, reach: &Reach, lost: u64, slate: &mut OptionBox)
-    ensures { Passed (B.Binder.meaning binder.old) (B.Binder.meaning binder.new) reach.now.masks lost slate.old.cells slate.new.cells (B.Binder.meaning binder.old).count }
+    ensures { Passed (B.Binder.meaning binder.old) (B.Binder.meaning binder.new) (masks_of reach.now) lost slate.old.cells slate.new.cells (B.Binder.meaning binder.old).count }
 {
     let count = binder.sheets();
     for sheet in 0..count {
@@ -42,7 +43,7 @@ pub fn settle<B: Binder>(
     mut lost: u64,
     slate: &mut OptionBox,
 )
-    ensures { Settled (B.Binder.meaning binder.old) (B.Binder.meaning binder.new) reach.now.masks lost slots slate.old.cells slate.new.cells }
+    ensures { Settled (B.Binder.meaning binder.old) (B.Binder.meaning binder.new) (masks_of reach.now) lost slots slate.old.cells slate.new.cells }
 {
     'rounds: loop {
         let before = *slate;

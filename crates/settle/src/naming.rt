@@ -1,7 +1,7 @@
 // Asks a binder which slots its sheets name, and the table which sheets name a slot of a set.
 ghost use Rattle.std.specs.Prelude.{ℕ, Decides, slice_index};
 ghost use Rattle.boxes.specs.Slots.{Apart};
-ghost use Rattle.settle.specs.Reach.{Named};
+ghost use Rattle.settle.specs.Reach.{masks_of, Named};
 
 use crate::reach::Reach;
 use binder::binders::Binder;
@@ -22,7 +22,7 @@ fn slots_named<B: Binder>(binder: &B, sheet: usize) -> u64
 impl Reach {
     // Asks a binder which slots its sheets name.
     pub fn of<B: Binder>(binder: &B) -> Reach
-        ensures { (k : ℕ) → Named (B.Binder.meaning binder.now) k (slice_index result.masks k) }
+        ensures { (k : ℕ) → Named (B.Binder.meaning binder.now) k (slice_index (masks_of result) k) }
     {
         let mut masks = [0; 1024];
         for sheet in 0..binder.sheets() {

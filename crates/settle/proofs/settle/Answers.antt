@@ -1,7 +1,8 @@
 use Rattle.std.proofs.Common.{subst}
 use Rattle.std.proofs.lemmas.Bool.{both_ways}
 use Rattle.settle.specs.Reach.{Resting}
-use Rattle.settle.proofs.Tight.{tight_none, tight_trans, covers_framed, resting_on, changed_less}
+use Rattle.settle.proofs.Scopes.{covers_same}
+use Rattle.settle.proofs.Tight.{tight_none, tight_trans, resting_on, changed_less}
 use Rattle.settle.proofs.Keeping.{settled_same, settled_dry}
 use Rattle.settle.proofs.settle.Goals as goal
 
@@ -18,7 +19,7 @@ returns-then-lost-eq0 g c =
     let was = c.rounds.invariant in
     settled_same _ _ _ _ c.args.slots _ _ (tight_trans _ _ _ _ was.0 _ _ c.round.ensures.tight)
     (λ covers rest. subst (Resting _ _ _) c.if-lost-eq0.true
-    (resting_on _ _ _ _ _ _ _ c.rounds.slate.long c.round.ensures c.changed-lost.ensures (covers_framed _ _ _ was.0.framed covers) (was.1 covers rest)))
+    (resting_on _ _ _ _ _ _ _ c.rounds.slate.long c.round.ensures c.changed-lost.ensures (covers_same _ _ _ _ _ was.0.framed.sheets.count was.0.framed.sheets.scope covers) (was.1 covers rest)))
     (c.alive.ensures.0 c.if-not-alive.false)
 
 pub rounds-smaller : goal.rounds-smaller
@@ -28,5 +29,5 @@ pub rounds-preserved : goal.rounds-preserved
 rounds-preserved g c =
     let was = c.rounds.invariant in (
       tight_trans _ _ _ _ was.0 _ _ c.round.ensures.tight,
-      λ covers rest. resting_on _ _ _ _ _ _ _ c.rounds.slate.long c.round.ensures c.changed-lost.ensures (covers_framed _ _ _ was.0.framed covers) (was.1 covers rest),
+      λ covers rest. resting_on _ _ _ _ _ _ _ c.rounds.slate.long c.round.ensures c.changed-lost.ensures (covers_same _ _ _ _ _ was.0.framed.sheets.count was.0.framed.sheets.scope covers) (was.1 covers rest),
     )
