@@ -2,6 +2,7 @@
 use Rattle.std.specs.Prelude.{◌≡◌, ℕ, ◌+◌, ◌-◌, ◌<◌, ◌≤◌, min, Bool, true, false, cond, ◌&&◌, T, List, length, ◌==◌, ◌≢◌, nat_lt, slice_index}
 use Rattle.std.proofs.Common.{sym, subst, ⊎_elim, arith}
 use Rattle.std.proofs.lemmas.Bool.{cases_lt, lt-ltb, le-ltb, cond-true, cond-false}
+use Rattle.binder.specs.declared.join.Join.{Join}
 use Rattle.binder.specs.Meaning.{Binding, Proper, Listed, Alike, kept_first}
 
 -- the first k sheets are those of a, the others those of b
@@ -20,6 +21,10 @@ joined a b = glue a.count a b
 -- both where t is true and they have the same number of marks, and else the first alone
 abbrev pub paired : Bool → Binding → Binding → Binding
 paired t a b = cond (t && a.marks == b.marks) (joined a b) a
+
+-- what a join means, by what the two that it holds mean
+abbrev pub meaning_of : {A B : Type 0} → (A → Binding) → (B → Binding) → Join A B → Binding
+meaning_of f g j = paired j.both (f j.first) (g j.second)
 
 -- m has no marks, and the sheets of a and then those of b, up to number 1023; each keeps what it kept at the
 -- oldest of its marks, or keeps where it has none
@@ -75,3 +80,6 @@ cond_proper false m n pm pn = pn
 
 pub paired_proper : (t : Bool) (a b : Binding) → Proper a → Proper b → Proper (paired t a b)
 paired_proper t a b pa pb = cond_proper (t && a.marks == b.marks) (joined a b) a (joined_proper a b pa pb) pa
+
+pub proper_of : {A B : Type 0} (f : A → Binding) (g : B → Binding) → ((a : A) → Proper (f a)) → ((b : B) → Proper (g b)) → (j : Join A B) → Proper (meaning_of f g j)
+proper_of f g pf pg j = paired_proper j.both (f j.first) (g j.second) (pf j.first) (pg j.second)

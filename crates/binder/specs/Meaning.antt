@@ -1,8 +1,6 @@
 -- What a binder means, and what its calls do to that. Assumes nothing.
 use Rattle.std.specs.Prelude.{◌≡◌, ℕ, ◌+◌, ◌<◌, ◌≤◌, Bool, cond, T, List, length, Ok, Err, Result, ◌==◌, ◌≢◌, nat_lt, slice_index, slice_index_or}
 use Rattle.boxes.specs.Boxes.{Open, Fits, Within}
-use Rattle.binder.specs.declared.refusal.Refusal.{Refusal}
-use Rattle.binder.specs.declared.refusal.Refusal.TheVariants.{NotThere}
 
 -- The sheets, numbered from 0. A sheet keeps some lists, each with one option for each slot of its scope.
 pub record Binding : Type 0 where
@@ -28,13 +26,12 @@ pub record Proper (m : Binding) : Type 0 where
   pub listed : (s : ℕ) (l : List ℕ) → T (m.kept s l) → Listed (m.scope s) l
   pub listed_then : (i s : ℕ) (l : List ℕ) → T (m.marked i s l) → Listed (m.scope s) l
 
--- The questions.
-abbrev pub arity_of : Binding → ℕ → Result ℕ Refusal
-arity_of m s = cond (nat_lt s m.count) (Ok (length (m.scope s))) (Err NotThere)
+-- The questions: the answer, or the number of the refusal.
+abbrev pub arity_of : Binding → ℕ → Result ℕ ℕ
+arity_of m s = cond (nat_lt s m.count) (Ok (length (m.scope s))) (Err 31)
 
-abbrev pub slot_at : Binding → ℕ → ℕ → Result ℕ Refusal
-slot_at m s p =
-    cond (nat_lt s m.count) (cond (nat_lt p (length (m.scope s))) (Ok (slice_index (m.scope s) p)) (Err NotThere)) (Err NotThere)
+abbrev pub slot_at : Binding → ℕ → ℕ → Result ℕ ℕ
+slot_at m s p = cond (nat_lt s m.count) (cond (nat_lt p (length (m.scope s))) (Ok (slice_index (m.scope s) p)) (Err 31)) (Err 31)
 
 -- both have the same lists
 abbrev pub Alike : (List ℕ → Bool) → (List ℕ → Bool) → Type 0

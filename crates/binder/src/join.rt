@@ -1,7 +1,7 @@
 // Two binders side by side as one.
 ghost use Rattle.std.specs.Prelude.{◌≡◌, ◌+◌, ◌<◌, ◌≤◌, true, ◌&&◌, ◌==◌, MatchResult};
-ghost use Rattle.binder.specs.declared.refusal.Refusal.TheVariants.{NotThere};
-ghost use Rattle.binder.specs.Joined.{paired, paired_proper, Beside};
+ghost use Rattle.binder.specs.Refusals.{number_of};
+ghost use Rattle.binder.specs.Joined.{meaning_of, proper_of, Beside};
 
 use crate::binders::Binder;
 use crate::clear::undo_all;
@@ -32,7 +32,7 @@ impl<A: Binder, B: Binder> Join<A, B> {
     // Undoes every mark of either, and joins them. The contract is over what the new join means, which the
     // impl below gives.
     pub fn new(a: A, b: B) -> Self
-        ensures { Beside (A.Binder.meaning a) (B.Binder.meaning b) (paired result.both (A.Binder.meaning result.first) (B.Binder.meaning result.second)) }
+        ensures { Beside (A.Binder.meaning a) (B.Binder.meaning b) (meaning_of A.Binder.meaning B.Binder.meaning result) }
     {
         let mut first = a;
         let mut second = b;
@@ -56,7 +56,7 @@ impl<A: Binder, B: Binder> Join<A, B> {
     fn in_second(&self, sheet: usize) -> Result<usize, Refusal>
         requires { (A.Binder.meaning self.now.first).count ≤ sheet }
         ensures { MatchResult result (λ place. ((self.now.both && (A.Binder.meaning self.now.first).marks == (B.Binder.meaning self.now.second).marks) ≡ true) × (sheet < 1024) × (sheet ≡ (A.Binder.meaning self.now.first).count + place))
-            (λ e. (e ≡ NotThere) × ((paired self.now.both (A.Binder.meaning self.now.first) (B.Binder.meaning self.now.second)).count ≤ sheet)) }
+            (λ e. (number_of e ≡ 31) × ((meaning_of A.Binder.meaning B.Binder.meaning self.now).count ≤ sheet)) }
     {
         if sheet >= SHEETS || !self.level() {
             return Err(Refusal::NotThere);
@@ -66,9 +66,9 @@ impl<A: Binder, B: Binder> Join<A, B> {
 }
 
 impl<A: Binder, B: Binder> Binder for Join<A, B> {
-    ghost meaning = { λ j. paired j.both (A.Binder.meaning j.first) (B.Binder.meaning j.second) };
+    ghost meaning = { λ j. meaning_of A.Binder.meaning B.Binder.meaning j };
 
-    ghost proper = { λ j. paired_proper j.both (A.Binder.meaning j.first) (B.Binder.meaning j.second) (A.Binder.proper j.first) (B.Binder.proper j.second) };
+    ghost proper = { λ j. proper_of A.Binder.meaning B.Binder.meaning A.Binder.proper B.Binder.proper j };
 
     fn sheets(&self) -> usize {
         let n = self.first.sheets();

@@ -6,9 +6,16 @@ use Rattle.std.proofs.lemmas.Bool.{cases_eq}
 use Rattle.std.proofs.lemmas.Bool.Decides.{Decides-eqb}
 use Rattle.subject.proofs.Bits as Number
 use Rattle.boxes.specs.Boxes.{Bit}
-use Rattle.boxes.specs.Slots.{Lone, Added, Apart, Changed}
+use Rattle.boxes.specs.Slots.{Whole, Lone, Added, Apart, Changed}
 use Rattle.boxes.proofs.Bits.{bit}
 use Rattle.boxes.proofs.Counting.{differ_there}
+
+pub whole : Whole 281474976710655
+unfolding Bit
+whole = record {
+  only = λ t b. Number.small_bit 48 281474976710655 t (omega arith) b;
+  here = λ t h. Number.ones_bit 48 t h;
+}
 
 pub lone : (s : ℕ) → s < 48 → Lone ((1 * 2 ^ s) % 18446744073709551616) s
 unfolding Bit

@@ -2,6 +2,11 @@
 use Rattle.std.specs.Prelude.{◌≡◌, ℕ, ◌<◌, ◌⊎◌, List, slice_index}
 use Rattle.boxes.specs.Boxes.{Bit, Differ}
 
+-- the set of every slot that a box covers, and of no other
+pub record Whole (set : ℕ) : Type 0 where
+  pub only : (t : ℕ) → Bit set t → t < 48
+  pub here : (t : ℕ) → t < 48 → Bit set t
+
 -- the set of slot s alone, if a box covers it
 pub record Lone (set s : ℕ) : Type 0 where
   pub only : (t : ℕ) → Bit set t → (t ≡ s) × (t < 48)

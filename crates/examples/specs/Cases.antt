@@ -32,12 +32,12 @@ pub record SampleCases (P : Problem) : Type 0 where
 -- small catalogues, each of one sheet
 pub record SheetCases : Type 0 where
   -- a fit sheet without rows leaves nothing open, also in the slot that it does not name
-  pub nothing_fits_lem : Dry (asked nothing_fits) []
+  pub fit_without_rows : Dry (asked nothing_fits) []
   -- a bar sheet without rows closes nothing
-  pub nothing_barred_lem : Counts (asked nothing_barred) [] 4 × Looks (asked nothing_barred) [] (3 ∷ 3 ∷ [])
+  pub bar_without_rows : Counts (asked nothing_barred) [] 4 × Looks (asked nothing_barred) [] (3 ∷ 3 ∷ [])
   -- a bar sheet that bars option 0 of two leaves the other, one that bars both leaves nothing
-  pub first_barred_lem : Counts (asked first_barred) [] 1 × Looks (asked first_barred) [] (2 ∷ [])
-  pub both_barred_lem : Dry (asked both_barred) []
+  pub bars_one : Counts (asked first_barred) [] 1 × Looks (asked first_barred) [] (2 ∷ [])
+  pub bars_both : Dry (asked both_barred) []
   -- a load is met up to its cap and not beyond: 500 - 100 is within 400, and not within 399
   pub within_cap : Counts (asked (loaded (pos 400))) [] 3 × Looks (asked (loaded (pos 400))) [] (3 ∷ 2 ∷ [])
   pub beyond_cap : Counts (asked (loaded (pos 399))) [] 2 × Looks (asked (loaded (pos 399))) [] (1 ∷ 2 ∷ [])
@@ -45,8 +45,8 @@ pub record SheetCases : Type 0 where
 -- while nothing is open, a try of an option that its slot has is refused by 23
 pub record DryCases : Type 0 where
   pub always : (P : Problem) (D : List Decision) (s o : ℕ) → Dry P D → Real P s o → Refuses P D (try s o) 23
-  pub nothing_fits_lem : Refuses (asked nothing_fits) [] (try 1 1) 23
-  pub both_barred_lem : Refuses (asked both_barred) [] (try 0 0) 23
+  pub fit_without_rows : Refuses (asked nothing_fits) [] (try 1 1) 23
+  pub bars_both : Refuses (asked both_barred) [] (try 0 0) 23
 
 -- all of them; the sample stands in its file byte by byte, and is written as that
 pub record WorkedExamples : Type 0 where

@@ -1,6 +1,6 @@
 // The fit binder's calls.
 ghost use Rattle.std.specs.Prelude.{◌≡◌, ◌<◌, ◌≤◌, MatchResult, OnOk};
-ghost use Rattle.binder.specs.declared.refusal.Refusal.TheVariants.{NotThere};
+ghost use Rattle.binder.specs.Refusals.{number_of};
 ghost use Rattle.binder.specs.Meaning.{Shown};
 ghost use Rattle.fit.specs.Meaning.{meaning_of, proper_of, Exact};
 
@@ -39,7 +39,7 @@ impl<'a> Binder for Fit<'a> {
     // The clause `shown` is said whole, as the interface says it: an impl with a clause of its own repeats it.
     fn show(&mut self, sheet: usize, slate: &mut OptionBox) -> Result<(), Refusal>
         ensures shown { MatchResult result (λ _. (sheet < (meaning_of self.old).count) × Shown (meaning_of self.old) (meaning_of self.new) sheet slate.old.cells slate.new.cells)
-            (λ e. (e ≡ NotThere) × ((meaning_of self.old).count ≤ sheet) × (self.new ≡ self.old) × (slate.new ≡ slate.old)) }
+            (λ e. (number_of e ≡ 31) × ((meaning_of self.old).count ≤ sheet) × (self.new ≡ self.old) × (slate.new ≡ slate.old)) }
         ensures exact { OnOk result (Exact (meaning_of self.old) (meaning_of self.new) sheet slate.old.cells) }
     {
         let shown = self.sheets.sheet(sheet)?;

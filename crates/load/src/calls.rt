@@ -1,6 +1,6 @@
 // Load sheets as a binder: its questions, showings and marks.
 ghost use Rattle.std.specs.Prelude.{◌≡◌, ◌<◌, ◌≤◌, MatchResult};
-ghost use Rattle.binder.specs.declared.refusal.Refusal.TheVariants.{NotThere};
+ghost use Rattle.binder.specs.Refusals.{number_of};
 ghost use Rattle.binder.specs.Meaning.{Shown};
 ghost use Rattle.catalogue.specs.declared.make.Make.TheVariants.{Load as LoadMake};
 ghost use Rattle.catalogue.specs.Verdict.{content};
@@ -64,7 +64,7 @@ impl<'a> Binder for Load<'a> {
     // The clause `shown` is said whole, as the interface says it: an impl with a clause of its own repeats it.
     fn show(&mut self, sheet: usize, slate: &mut OptionBox) -> Result<(), Refusal>
         ensures shown { MatchResult result (λ _. (sheet < (meaning_of self.old).count) × Shown (meaning_of self.old) (meaning_of self.new) sheet slate.old.cells slate.new.cells)
-            (λ e. (e ≡ NotThere) × ((meaning_of self.old).count ≤ sheet) × (self.new ≡ self.old) × (slate.new ≡ slate.old)) }
+            (λ e. (number_of e ≡ 31) × ((meaning_of self.old).count ≤ sheet) × (self.new ≡ self.old) × (slate.new ≡ slate.old)) }
         ensures stays { self.new ≡ self.old }
     {
         let taken = self.sheets.sheet(sheet)?;

@@ -5,7 +5,7 @@ ghost use Rattle.std.specs.Prelude.{[]};
 ghost use Rattle.planner.specs.States.{After};
 ghost use Rattle.plain.specs.Plain.{problem_in, meaning_of};
 
-use bar::bars::Bar;
+use bar::Bar;
 use binder::join::Join;
 use catalogue::checked::Catalogue;
 use fit::Fit;

@@ -8,7 +8,7 @@ use Rattle.subject.specs.Problem.{Problem, Real, Placed}
 use Rattle.subject.specs.Boxes.{Inside, opened}
 use Rattle.subject.specs.Decisions.{Decision, tried, struck, Forbids, Open, Largest, tries, undone}
 use Rattle.subject.specs.Logs.{Log, Call, Answer, calls, decided, walking, given, Refuses, Bit, Reckoned, try, strike, back, look, count, bits, refused}
-use Rattle.subject.specs.Logs.{refuses, try_slot, try_option_lem, try_shut, strike_slot, strike_option, strike_shut, try_done, strike_done, back_done, look_done}
+use Rattle.subject.specs.Logs.{refuses, try_no_slot, try_no_option, try_shut, strike_no_slot, strike_no_option, strike_shut, try_done, strike_done, back_done, look_done}
 use Rattle.subject.specs.Law.{inside}
 use Rattle.subject.proofs.Bits.{small_bit}
 use Rattle.subject.proofs.Largest.{decide_largest}
@@ -123,8 +123,8 @@ module _ {B : Type 0} {bound : Ghosts B} (meaning : B → Binding) (P : Problem)
 
   -- why an option cannot be had, in the words of the problem
   pub shut_try : (L : Log) (p : Planner B bound) (s o : ℕ) (e : Refusal) (a : After meaning P L p) → Shut p.slots p.slate.cells s o e → Refuses P a.decisions (try s o) (number_of e)
-  shut_try L p s o NoSlot a h = try_slot (omega (arith, h, slots_are _ p a.stands))
-  shut_try L p s o NoOption a h = try_option_lem (omega (arith, h.0, slots_are _ p a.stands)) (omega (arith, h.1, size_is _ p s h.0 a.stands))
+  shut_try L p s o NoSlot a h = try_no_slot (omega (arith, h, slots_are _ p a.stands))
+  shut_try L p s o NoOption a h = try_no_option (omega (arith, h.0, slots_are _ p a.stands)) (omega (arith, h.1, size_is _ p s h.0 a.stands))
   shut_try L p s o NotOpen a h =
       try_shut (omega (arith, h.0, slots_are _ p a.stands), omega (arith, h.1, size_is _ p s h.0 a.stands)) (λ w. h.2 ((open_is _ p s o a.stands).1 w))
   shut_try L p s o TooManyTries a h = absurd h
@@ -132,8 +132,8 @@ module _ {B : Type 0} {bound : Ghosts B} (meaning : B → Binding) (P : Problem)
   shut_try L p s o ShortMemory a h = absurd h
 
   pub shut_strike : (L : Log) (p : Planner B bound) (s o : ℕ) (e : Refusal) (a : After meaning P L p) → Shut p.slots p.slate.cells s o e → Refuses P a.decisions (strike s o) (number_of e)
-  shut_strike L p s o NoSlot a h = strike_slot (omega (arith, h, slots_are _ p a.stands))
-  shut_strike L p s o NoOption a h = strike_option (omega (arith, h.0, slots_are _ p a.stands)) (omega (arith, h.1, size_is _ p s h.0 a.stands))
+  shut_strike L p s o NoSlot a h = strike_no_slot (omega (arith, h, slots_are _ p a.stands))
+  shut_strike L p s o NoOption a h = strike_no_option (omega (arith, h.0, slots_are _ p a.stands)) (omega (arith, h.1, size_is _ p s h.0 a.stands))
   shut_strike L p s o NotOpen a h =
       strike_shut (omega (arith, h.0, slots_are _ p a.stands), omega (arith, h.1, size_is _ p s h.0 a.stands)) (λ w. h.2 ((open_is _ p s o a.stands).1 w))
   shut_strike L p s o TooManyTries a h = absurd h

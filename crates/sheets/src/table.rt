@@ -1,6 +1,6 @@
 // The sheets of one make, as a checked catalogue shows them: what every make of binder stands on.
 ghost use Rattle.std.specs.Prelude.{◌≡◌, ◌<◌, ◌≤◌, [], length, MatchResult};
-ghost use Rattle.binder.specs.declared.refusal.Refusal.TheVariants.{NotThere};
+ghost use Rattle.binder.specs.Refusals.{number_of, numbered};
 ghost use Rattle.catalogue.specs.Views.{shown_by};
 ghost use Rattle.sheets.specs.Tables.{Taken, shown_at, arity_in, slot_in};
 ghost use Rattle.sheets.specs.Opened.{shown_of};
@@ -47,7 +47,7 @@ impl<'a> Sheets<'a> {
     // Sheet s, counted from 0, if there is one.
     pub fn sheet(&self, s: usize) -> Result<Sheet<'a>, Refusal>
         ensures { MatchResult result (λ sheet. (s < self.now.count) × (shown_of sheet ≡ shown_at self.now.views s))
-            (λ e. (e ≡ NotThere) × (self.now.count ≤ s)) }
+            (λ e. (number_of e ≡ 31) × (self.now.count ≤ s)) }
     {
         if s >= self.count {
             return Err(Refusal::NotThere);
@@ -62,7 +62,7 @@ impl<'a> Sheets<'a> {
 
     // How many slots a sheet names.
     pub fn arity(&self, s: usize) -> Result<usize, Refusal>
-        ensures { result ≡ arity_in self.now.views self.now.count s }
+        ensures { numbered result ≡ arity_in self.now.views self.now.count s }
     {
         let sheet = self.sheet(s)?;
         Ok(sheet.scope.slots.len())
@@ -70,7 +70,7 @@ impl<'a> Sheets<'a> {
 
     // The slot at a position of a sheet's scope.
     pub fn slot_at(&self, s: usize, position: usize) -> Result<usize, Refusal>
-        ensures { result ≡ slot_in self.now.views self.now.count s position }
+        ensures { numbered result ≡ slot_in self.now.views self.now.count s position }
     {
         let sheet = self.sheet(s)?;
         match sheet.scope.slots.get(position) {

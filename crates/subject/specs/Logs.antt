@@ -30,15 +30,15 @@ calls L = map (λ e. e.call) L
 
 -- The call is refused while the decisions D stand, by the first of its refusals that applies.
 pub data Refuses (P : Problem) (D : List Decision) : Call → ℕ → Type 0 where
-  try_slot : {s o : ℕ} → length P.sizes ≤ s → Refuses P D (try s o) 21
-  try_option_lem : {s o : ℕ} → s < length P.sizes → slice_index P.sizes s ≤ o → Refuses P D (try s o) 22
+  try_no_slot : {s o : ℕ} → length P.sizes ≤ s → Refuses P D (try s o) 21
+  try_no_option : {s o : ℕ} → s < length P.sizes → slice_index P.sizes s ≤ o → Refuses P D (try s o) 22
   try_shut : {s o : ℕ} → Real P s o → (Open P D s o → ⊥) → Refuses P D (try s o) 23
   try_full : {s o : ℕ} → Open P D s o → 16 ≤ tries D → Refuses P D (try s o) 24
-  strike_slot : {s o : ℕ} → length P.sizes ≤ s → Refuses P D (strike s o) 21
-  strike_option : {s o : ℕ} → s < length P.sizes → slice_index P.sizes s ≤ o → Refuses P D (strike s o) 22
+  strike_no_slot : {s o : ℕ} → length P.sizes ≤ s → Refuses P D (strike s o) 21
+  strike_no_option : {s o : ℕ} → s < length P.sizes → slice_index P.sizes s ≤ o → Refuses P D (strike s o) 22
   strike_shut : {s o : ℕ} → Real P s o → (Open P D s o → ⊥) → Refuses P D (strike s o) 23
   back_none : tries D ≡ 0 → Refuses P D back 25
-  look_slot : {s : ℕ} → length P.sizes ≤ s → Refuses P D (look s) 21
+  look_no_slot : {s : ℕ} → length P.sizes ≤ s → Refuses P D (look s) 21
   next_short : {n : ℕ} → n < length P.sizes → Refuses P D (next n) 26
 
 -- what a call that is not refused makes of the decisions

@@ -1,15 +1,14 @@
 // The bar sheets of a checked catalogue as one binder.
-ghost use Rattle.std.specs.Prelude.{◌≡◌, ◌<◌, ◌≤◌, true, MatchResult};
-ghost use Rattle.binder.specs.declared.refusal.Refusal.TheVariants.{NotThere};
+ghost use Rattle.std.specs.Prelude.{◌≡◌, ◌<◌, ◌≤◌, MatchResult};
+ghost use Rattle.binder.specs.Refusals.{number_of};
 ghost use Rattle.binder.specs.Meaning.{Shown};
 ghost use Rattle.catalogue.specs.declared.make.Make.TheVariants.{Bar as BarMake};
 ghost use Rattle.catalogue.specs.Verdict.{content};
-ghost use Rattle.catalogue.specs.Views.{is_make};
 ghost use Rattle.sheets.specs.Rules.{Fresh};
 ghost use Rattle.sheets.specs.Tables.{sheets_in};
-ghost use Rattle.bar.specs.Meaning.{meaning_of};
-ghost use Rattle.bar.specs.Proper.{barring_proper};
+ghost use Rattle.bar.specs.Meaning.{meaning_of, proper_of};
 
+use crate::Bar;
 use crate::tally::supports;
 use binder::binders::Binder;
 use binder::marks::Marks;
@@ -18,22 +17,12 @@ use boxes::OptionBox;
 use catalogue::checked::Catalogue;
 use catalogue::make::Make;
 use sheets::closing::keep_only;
-use sheets::table::Sheets;
 use sheets::taking::sheets_of;
-
-// Each sheet keeps every list that is not among its rows. What it keeps never changes, so that a mark is
-// only counted.
-#[derive(Drop)]
-pub struct Bar<'a> {
-    sheets: Sheets<'a>,
-    marks: Marks,
-    ghost bars: { is_make BarMake sheets.make ≡ true },
-}
 
 impl<'a> Bar<'a> {
     // The bar sheets of a checked catalogue, with no mark.
     pub fn new(catalogue: &Catalogue<'a>) -> Bar<'a>
-        ensures { Fresh (sheets_in (content catalogue.now.bytes.now) BarMake) (meaning_of result.sheets result.marks) }
+        ensures { Fresh (sheets_in (content catalogue.now.bytes.now) BarMake) (meaning_of result) }
     {
         let sheets = sheets_of(catalogue, Make::Bar);
         Bar {
@@ -44,9 +33,9 @@ impl<'a> Bar<'a> {
 }
 
 impl<'a> Binder for Bar<'a> {
-    ghost meaning = { λ x. meaning_of x.sheets x.marks };
+    ghost meaning = { meaning_of };
 
-    ghost proper = { λ x. barring_proper x.sheets.make x.sheets.views x.sheets.count x.marks.count x.bars x.sheets.taken x.sheets.few x.sheets.long x.marks.few };
+    ghost proper = { proper_of };
 
     // The questions and marks hand on to what the makes share. One generic binder over a make's way to find support
     // would be no plainer: a trait with the meaning, its law and the showing would be longer than these calls.
@@ -70,8 +59,8 @@ impl<'a> Binder for Bar<'a> {
     // goes on keeping every list that is not among its rows.
     // The clause `shown` is said whole, as the interface says it: an impl with a clause of its own repeats it.
     fn show(&mut self, sheet: usize, slate: &mut OptionBox) -> Result<(), Refusal>
-        ensures shown { MatchResult result (λ _. (sheet < (meaning_of self.old.sheets self.old.marks).count) × Shown (meaning_of self.old.sheets self.old.marks) (meaning_of self.new.sheets self.new.marks) sheet slate.old.cells slate.new.cells)
-            (λ e. (e ≡ NotThere) × ((meaning_of self.old.sheets self.old.marks).count ≤ sheet) × (self.new ≡ self.old) × (slate.new ≡ slate.old)) }
+        ensures shown { MatchResult result (λ _. (sheet < (meaning_of self.old).count) × Shown (meaning_of self.old) (meaning_of self.new) sheet slate.old.cells slate.new.cells)
+            (λ e. (number_of e ≡ 31) × ((meaning_of self.old).count ≤ sheet) × (self.new ≡ self.old) × (slate.new ≡ slate.old)) }
         ensures stays { self.new ≡ self.old }
     {
         let shown = self.sheets.sheet(sheet)?;

@@ -1,6 +1,6 @@
 use Rattle.std.proofs.Common.{arith}
 use Rattle.bar.proofs.Showing.{fresh}
-use Rattle.bar.proofs.bars.Bar.new.Goals as goal
+use Rattle.bar.proofs.Bar.new.Goals as goal
 
 pub returns : goal.returns
 returns c =

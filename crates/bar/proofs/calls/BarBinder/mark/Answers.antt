@@ -1,7 +1,7 @@
 use Rattle.std.proofs.Common.{rules}
 use Rattle.std.proofs.lemmas.Result.{MatchResult-weaker}
 use Rattle.bar.proofs.Showing.{same_marks}
-use Rattle.bar.proofs.bars.BarBinder.mark.Goals as goal
+use Rattle.bar.proofs.calls.BarBinder.mark.Goals as goal
 
 pub returns : goal.returns
 returns c =

@@ -1,7 +1,7 @@
 use Rattle.std.proofs.Common.{◌≡◌, length, arith, rules}
 use Rattle.sheets.specs.Opened.{shown_of}
 use Rattle.bar.proofs.Showing.{good_sheet, shown}
-use Rattle.bar.proofs.bars.BarBinder.show.Goals as goal
+use Rattle.bar.proofs.calls.BarBinder.show.Goals as goal
 
 pub supports-masks-requires-clause-few : goal.supports-masks-requires-clause-few
 supports-masks-requires-clause-few c = omega (arith, (good_sheet c.args.self.now c.in_ok-shown.shown c.args.sheet c.in_ok-shown.ensures).few)
