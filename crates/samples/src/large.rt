@@ -95,7 +95,7 @@ pub fn one_sheet(heap: Global, rows: u16) -> Result<Draft, AllocError>
 // A file with as much of everything as a catalogue may have: 48 slots of 32 options, 64 sheets of
 // eight slots, 8 of them load sheets with 256 weights each, and 4,096 rows.
 pub fn largest(heap: Global) -> Result<Draft, AllocError>
-    ensures { IfOk result (λ d. vec_len d.bytes ≡ 47873) }
+    ensures { IfOk result (λ d. vec_len d.bytes ≡ LONGEST) }
 {
     let draft = Draft::new(heap).slots(48, 32)?;
     let draft = draft.fit_sheets(40)?.bar_sheets(16)?;

@@ -5,7 +5,7 @@ ghost use Rattle.catalogue.specs.Records.{between, kind_at, header_size};
 ghost use Rattle.catalogue.specs.Checks.{scope_of, cap_of};
 ghost use Rattle.catalogue.specs.Kinds.{code_of};
 ghost use Rattle.catalogue.specs.Places.{is_entry, Entries};
-ghost use Rattle.catalogue.specs.Listing.{Steps, Stands};
+ghost use Rattle.catalogue.specs.Listing.{NextGives, Stands};
 
 use crate::kind::Kind;
 use crate::make::Make;
@@ -63,17 +63,17 @@ fn cap_of(make: Make, body: &[u8]) -> i32
 // What is left to go through: the sheets from a place on, up to the end record. It keeps a place and not the rest of
 // the bytes, since the definitions speak of places in the file.
 #[derive(Drop)]
-pub(crate) struct Sheets<'a> {
+pub(crate) struct SheetScan<'a> {
     pub(crate) bytes: &'a [u8],
     pub(crate) at: usize,
 }
 
-impl<'a> Iterator for Sheets<'a> {
+impl<'a> Iterator for SheetScan<'a> {
     type Item = (Make, View<'a>);
 
     ghost can_next = { Stands };
 
-    ghost next_gives = { Steps };
+    ghost next_gives = { NextGives };
 
     ghost remaining = { λ s. at_most (length s.bytes.now - s.at) };
 

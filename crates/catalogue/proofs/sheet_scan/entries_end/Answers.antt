@@ -1,7 +1,7 @@
 use Rattle.std.proofs.Common.{◌≡◌, ◌+◌, sym, ap, ◌∙◌, subst}
 use Rattle.catalogue.specs.Records.{body_len, kind_at}
 use Rattle.catalogue.proofs.Scan.{Onward, onward_start, onward_next, entries_done}
-use Rattle.catalogue.proofs.sheets.entries_end.Goals as goal
+use Rattle.catalogue.proofs.sheet_scan.entries_end.Goals as goal
 
 pub loop-kind-init : goal.loop-kind-init
 loop-kind-init c = onward_start _ _ _ c.requires.1

@@ -1,8 +1,8 @@
 use Rattle.std.proofs.Common.{◌≤◌, length, sym}
 use Rattle.std.proofs.lemmas.List.{length-take-le}
 use Rattle.checker.proofs.Tests.{filled_long}
-use Rattle.checker.proofs.sheet.Frame.row_of.Goals as goal
-use Rattle.checker.proofs.sheet.Frame.row_of.Goals.{Else-not-well_filled}
+use Rattle.checker.proofs.sheet.Frame.checked_row.Goals as goal
+use Rattle.checker.proofs.sheet.Frame.checked_row.Goals.{Else-not-well_filled}
 
 roomy : (c : Else-not-well_filled) → length c.args.self.now.scope.now ≤ length c.args.body.now
 roomy c = filled_long c.args.self.now.options.now c.args.self.now.scope.now c.args.body.now (sym c.if-not-well_filled.ensures)
