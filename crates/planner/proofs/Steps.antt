@@ -1,9 +1,6 @@
 -- What each call does to a planner, its binder and its log. Assumes nothing.
 use Rattle.std.proofs.Common.{◌≡◌, ℕ, suc, ◌+◌, ◌^◌, ◌<◌, ◌≤◌, Bool, T, ◌≢◌, ◌↔◌, List, [], ◌∷◌, length, get_or, take, set, sym, refl, ap, ◌∙◌, subst, subst₂, ⊎_elim, arith, length-take, get_or-take}
 use Rattle.std.proofs.lemmas.Bool.{cases_eq}
-use Rattle.subject.specs.declared.refusal.Refusal.{Refusal}
-use Rattle.subject.specs.declared.refusal.Refusal.TheVariants.{NoSlot, NoOption, NotOpen, TooManyTries, NoTry, ShortMemory}
-use Rattle.subject.specs.Refusals.{number_of}
 use Rattle.subject.specs.Problem.{Problem, Real, Placed}
 use Rattle.subject.specs.Boxes.{Inside, opened}
 use Rattle.subject.specs.Decisions.{Decision, tried, struck, Forbids, Open, Largest, tries, undone}
@@ -25,7 +22,7 @@ use Rattle.settle.specs.Keeping.{Has, Keeps}
 use Rattle.settle.specs.Reach.{masks_of, Covers, Resting}
 use Rattle.settle.specs.Settled.{Settled}
 use Rattle.settle.proofs.Keeping.{keeps_less, keeps_same, has_framed, covers_has, resting_based, backed_largest}
-use Rattle.planner.specs.States.{Found, Shut, cells_at, Saved, Stands, After}
+use Rattle.planner.specs.States.{Found, Shut, no_slot, no_option, not_open, cells_at, Saved, Stands, After}
 use Rattle.planner.specs.declared.state.Planner.{Planner}
 use Rattle.planner.proofs.Tables.{cells_same, cells_other}
 
@@ -122,23 +119,17 @@ module _ {B : Type 0} {bound : Ghosts B} (meaning : B → Binding) (P : Problem)
   }
 
   -- why an option cannot be had, in the words of the problem
-  pub shut_try : (L : Log) (p : Planner B bound) (s o : ℕ) (e : Refusal) (a : After meaning P L p) → Shut p.slots p.slate.cells s o e → Refuses P a.decisions (try s o) (number_of e)
-  shut_try L p s o NoSlot a h = try_no_slot (omega (arith, h, slots_are _ p a.stands))
-  shut_try L p s o NoOption a h = try_no_option (omega (arith, h.0, slots_are _ p a.stands)) (omega (arith, h.1, size_is _ p s h.0 a.stands))
-  shut_try L p s o NotOpen a h =
-      try_shut (omega (arith, h.0, slots_are _ p a.stands), omega (arith, h.1, size_is _ p s h.0 a.stands)) (λ w. h.2 ((open_is _ p s o a.stands).1 w))
-  shut_try L p s o TooManyTries a h = absurd h
-  shut_try L p s o NoTry a h = absurd h
-  shut_try L p s o ShortMemory a h = absurd h
+  pub shut_try : (L : Log) (p : Planner B bound) (s o n : ℕ) (a : After meaning P L p) → Shut p.slots p.slate.cells s o n → Refuses P a.decisions (try s o) n
+  shut_try L p s o n a (no_slot h) = try_no_slot (omega (arith, h, slots_are _ p a.stands))
+  shut_try L p s o n a (no_option h k) = try_no_option (omega (arith, h, slots_are _ p a.stands)) (omega (arith, k, size_is _ p s h a.stands))
+  shut_try L p s o n a (not_open h k shut) =
+      try_shut (omega (arith, h, slots_are _ p a.stands), omega (arith, k, size_is _ p s h a.stands)) (λ w. shut ((open_is _ p s o a.stands).1 w))
 
-  pub shut_strike : (L : Log) (p : Planner B bound) (s o : ℕ) (e : Refusal) (a : After meaning P L p) → Shut p.slots p.slate.cells s o e → Refuses P a.decisions (strike s o) (number_of e)
-  shut_strike L p s o NoSlot a h = strike_no_slot (omega (arith, h, slots_are _ p a.stands))
-  shut_strike L p s o NoOption a h = strike_no_option (omega (arith, h.0, slots_are _ p a.stands)) (omega (arith, h.1, size_is _ p s h.0 a.stands))
-  shut_strike L p s o NotOpen a h =
-      strike_shut (omega (arith, h.0, slots_are _ p a.stands), omega (arith, h.1, size_is _ p s h.0 a.stands)) (λ w. h.2 ((open_is _ p s o a.stands).1 w))
-  shut_strike L p s o TooManyTries a h = absurd h
-  shut_strike L p s o NoTry a h = absurd h
-  shut_strike L p s o ShortMemory a h = absurd h
+  pub shut_strike : (L : Log) (p : Planner B bound) (s o n : ℕ) (a : After meaning P L p) → Shut p.slots p.slate.cells s o n → Refuses P a.decisions (strike s o) n
+  shut_strike L p s o n a (no_slot h) = strike_no_slot (omega (arith, h, slots_are _ p a.stands))
+  shut_strike L p s o n a (no_option h k) = strike_no_option (omega (arith, h, slots_are _ p a.stands)) (omega (arith, k, size_is _ p s h a.stands))
+  shut_strike L p s o n a (not_open h k shut) =
+      strike_shut (omega (arith, h, slots_are _ p a.stands), omega (arith, k, size_is _ p s h a.stands)) (λ w. shut ((open_is _ p s o a.stands).1 w))
 
   -- Any other call is decided.
   answered : (L : Log) (p q : Planner B bound) (c : Call) (x : Answer) (a : After meaning P L p) → walking (record { call = c; answer = x } ∷ L) ≡ walking L → inside c ≡ mathlib.Core.Bool.false
