@@ -65,7 +65,6 @@ joined_proper a b pa pb = record {
   low = pa.low;
   some = glue_scopes (λ x. 1 ≤ length x) a b pa.some pb.some;
   short = glue_scopes (λ x. length x ≤ 8) a b pa.short pb.short;
-  slots = λ s p h. glue_scopes (λ x. p < length x → slice_index x p < 48) a b (λ t. pa.slots t p) (λ t. pb.slots t p) s h;
   apart = λ s p q h. glue_scopes (λ x. p < q → q < length x → slice_index x p ≢ slice_index x q) a b
       (λ t. pa.apart t p q) (λ t. pb.apart t p q) s h;
   listed = λ s l. cond_listed (nat_lt s a.count) (a.kept s l) (b.kept (s - a.count) l)

@@ -15,13 +15,12 @@ pub record Listed (scope l : List ℕ) : Type 0 where
   pub long : length l ≡ length scope
   pub low : (p : ℕ) → p < length scope → slice_index l p < 32
 
--- at most 1,024 sheets and 72 marks; each scope has 1 to 8 different slots below 48
+-- at most 1,024 sheets and 72 marks; each scope has 1 to 8 different slots, of any number
 pub record Proper (m : Binding) : Type 0 where
   pub few : m.count ≤ 1024
   pub low : m.marks ≤ 72
   pub some : (s : ℕ) → s < m.count → 1 ≤ length (m.scope s)
   pub short : (s : ℕ) → s < m.count → length (m.scope s) ≤ 8
-  pub slots : (s p : ℕ) → s < m.count → p < length (m.scope s) → slice_index (m.scope s) p < 48
   pub apart : (s p q : ℕ) → s < m.count → p < q → q < length (m.scope s) → slice_index (m.scope s) p ≢ slice_index (m.scope s) q
   pub listed : (s : ℕ) (l : List ℕ) → T (m.kept s l) → Listed (m.scope s) l
   pub listed_then : (i s : ℕ) (l : List ℕ) → T (m.marked i s l) → Listed (m.scope s) l

@@ -140,7 +140,6 @@ module _ (views : List View) (count : ℕ) (starts order counts : List ℕ) (sav
         low = x.low;
         some = λ s h. subst (λ sc. 1 ≤ length sc) (here s h) (x.sound.some s h);
         short = λ s h. subst (λ sc. length sc ≤ 8) (here s h) (x.sound.short s h);
-        slots = λ s p h. subst (λ sc. p < length sc → slice_index sc p < 48) (here s h) (x.sound.slots s p h);
         apart = λ s p q h lt. subst (λ sc. q < length sc → slice_index sc p ≢ slice_index sc q) (here s h) (x.sound.apart s p q h lt);
         listed = λ s l t. let k = (keeps_decides views count starts order s (slice_index counts s) l).0 (from_T _ t) in listed_row x s (slice_index counts s) l (x.within s k.0) k;
         listed_then = λ i s l t. let k = (kept_decides views count starts order marks i s (slice_index (slice_index_or saved i []) s) l).0 (from_T _ t) in listed_row x s (slice_index (slice_index_or saved i []) s) l (x.capped i s k.0 k.1.0) k.1;

@@ -21,7 +21,7 @@ use Rattle.boxes.specs.Slots.{Lone}
 use Rattle.settle.specs.Keeping.{Has, Keeps}
 use Rattle.settle.specs.Reach.{masks_of, Covers, Resting}
 use Rattle.settle.specs.Settled.{Settled}
-use Rattle.settle.proofs.Keeping.{keeps_less, keeps_same, has_framed, covers_has, resting_based, backed_largest}
+use Rattle.settle.proofs.Keeping.{opens_low, keeps_less, keeps_same, has_framed, covers_has, resting_based, backed_largest}
 use Rattle.planner.specs.States.{Found, Shut, no_slot, no_option, not_open, cells_at, Saved, Stands, After}
 use Rattle.planner.specs.declared.state.Planner.{Planner}
 use Rattle.planner.proofs.Tables.{cells_same, cells_other}
@@ -156,7 +156,7 @@ module _ {B : Type 0} {bound : Ghosts B} (meaning : B → Binding) (P : Problem)
     kept = keeps_less P _ _ _ less keeps
 
     rest : Resting m masks b lost
-    rest = resting_based P m masks b (opens p.slate.cells) lost has keeps (covers_has P m masks has covers) (record { inside = less; apart = off; backed = backed_largest P D (opens p.slate.cells) st.largest })
+    rest = resting_based P m masks b (opens p.slate.cells) lost has keeps (covers_has P m masks has covers) (record { inside = less; apart = off; backed = backed_largest P D (opens p.slate.cells) st.largest; low = opens_low p.slate.cells p.slate.long })
 
     decided_largest : Largest P (d ∷ D) (opens c)
     decided_largest = decide_largest P D d (opens p.slate.cells) (opens b) (opens c) st.largest cut (done.largest P has (slots_are D p st) placed real kept (covers_has P m masks has covers) rest)

@@ -8,7 +8,8 @@ use binder::binders::Binder;
 use boxes::SLOTS;
 use boxes::slots::{apart, with_slot};
 
-// The slots that a sheet names; none where there is no such sheet.
+// The slots that a sheet names, as far as a box covers them; none where there is no such sheet. A slot of a higher number has
+// nothing open, and so never loses anything: it is no reason to ask the sheet again.
 fn slots_named<B: Binder>(binder: &B, sheet: usize) -> u64
     ensures { Named (B.Binder.meaning binder.now) sheet result }
 {
