@@ -13,11 +13,9 @@ use std::rt::Files;
 #[cfg(test)]
 mod tests;
 
-// How much the programs read at most, of a file and of an input.
+// How much the programs read at most, of a file and of an input. That it is more than an accepted catalogue can have is
+// proved in `numaglik`, which knows both.
 pub const LIMIT: usize = 65536;
-
-// The longest accepted catalogue has 47,873 bytes, so each is read whole, and one that is cut has too many.
-const _: () = prove!(LIMIT > 47_873);
 
 // The first bytes of an input: all, or as many as `limit` says where there are more. A read that is interrupted is tried
 // again.

@@ -5,7 +5,7 @@
 ghost use Rattle.std.specs.Prelude.{◌≡◌, ◌+◌, ◌≤◌, length, IfOk, vec_len};
 
 use binder::binders::Binder;
-use catalogue::checked::Catalogue;
+use catalogue::checked::{Catalogue, LONGEST};
 use checker::check;
 use commands::lines::{Lines, whole_lines};
 use commands::parse::parse;
@@ -17,6 +17,9 @@ use std::io::Read;
 use subject::answer::Reply;
 use subject::call::Call;
 use subject::denial::Denial;
+
+// Each accepted file is read whole, and one that is cut has too many bytes to be accepted.
+const _: () = prove!(LIMIT > LONGEST);
 
 // The calls that the lines of some input make.
 fn calls_in(rt: &HostRuntime, input: &[u8]) -> anyhow::Result<Vec<Option<Call>>> {
