@@ -26,7 +26,7 @@ module _ {B : Type 0} {bound : Ghosts B} (meaning : B → Binding) (P : Problem)
   held_largest (Outside p) h D out st = subst (λ E. Largest P E (opens p.slate.cells)) (determinate P (calls L) h.decisions D h.standing st) h.stands.largest
   held_largest (Inside w) h D out st = absurd (true≢false (sym h.within ∙ out))
 
-  pub held_law : (s : Session B bound) → Held meaning P L s → Law P L s
+  pub held_law : (s : Session B bound) → Held meaning P L s → Law P L (box_of s)
   held_law s h = record {
     lawful = held_lawful s h;
     largest = held_largest s h;

@@ -27,13 +27,13 @@ abbrev pub box_of : {B : Type 0} {bound : Ghosts B} → Session B bound → Box
 box_of (Outside p) = opens p.slate.cells
 box_of (Inside w) = opens w.planner.slate.cells
 
--- The law of the log L of a planner of the problem P that is at s now.
-pub record Law {B : Type 0} {bound : Ghosts B} (P : Problem) (L : Log) (s : Session B bound) : Type 0 where
+-- The law of the log L of a planner of the problem P that has the box X now.
+pub record Law (P : Problem) (L : Log) (X : Box) : Type 0 where
   -- Every answer is as reckoned from slots, scopes, rules and the calls before it: whether a call is refused and by which
   -- number, what try, strike, back and look answer, and which plan next gives or that there is none left.
   pub lawful : Lawful P L
   -- Outside a walk the planner's box is the largest supported box within the decisions standing.
-  pub largest : (D : List Decision) → walking L ≡ false → Standing P (calls L) D → Largest P D (box_of s)
+  pub largest : (D : List Decision) → walking L ≡ false → Standing P (calls L) D → Largest P D X
   -- From a moment E of this log outside walks, the looks, begins, nexts and ends J that follow are answered as those that
   -- follow a moment F, outside walks, of any lawful log of equal slots, scopes and rules, where the decisions standing
   -- forbid the same options.
@@ -44,5 +44,5 @@ pub record Law {B : Type 0} {bound : Ghosts B} (P : Problem) (L : Log) (s : Sess
 -- law, and a line was not possible exactly where it says so.
 pub record Ran {B : Type 0} {bound : Ghosts B} (meaning : B → Binding) (P : Problem) (L : Log) (lines : List (Option Call)) (replies : List Reply) (k n : ℕ) (s : Session B bound) : Type 0 where
   pub held : Held meaning P (logged n lines replies k L) s
-  pub law : Law P (logged n lines replies k L) s
+  pub law : Law P (logged n lines replies k L) (box_of s)
   pub fitting : (i : ℕ) → i < k → Fitting (slice_index_or lines i None) (slice_index_or replies i (Err NotPossible)) (logged n lines replies i L)

@@ -3,6 +3,7 @@ ghost use Rattle.std.specs.Prelude.{ℕ, min, List, [], length};
 ghost use Rattle.subject.specs.Problem.{Problem};
 ghost use Rattle.subject.specs.Logs.{Log};
 ghost use Rattle.planner.specs.Opening.{slots_in, posed};
+ghost use Rattle.planner.specs.States.{After};
 ghost use Rattle.session.specs.Law.{Held, Ran};
 ghost use Rattle.session.specs.Runs.{Kept};
 
@@ -14,11 +15,18 @@ use subject::answer::{Answer, Reply};
 use subject::call::Call;
 
 impl<B: Binder> Session<B> {
+    // A session outside walks with a planner that was opened: wherever calls have led the planner, they have led the session.
+    pub fn of(planner: Planner<B>) -> Session<B>
+        ensures { (P : Problem) (L : Log) → After B.Binder.meaning P L planner → Held B.Binder.meaning P L result }
+    {
+        Session::Outside(planner)
+    }
+
     // Opens a planner on the slots of a checked catalogue and a binder, outside walks.
     pub fn open(catalogue: &Catalogue, binder: B) -> Session<B>
         ensures { Held B.Binder.meaning (posed (slots_in catalogue.now.bytes.now) (B.Binder.meaning binder)) [] result }
     {
-        Session::Outside(Planner::open(catalogue, binder))
+        Session::of(Planner::open(catalogue, binder))
     }
 
     // Replies to one line after another, as many as there are both lines and replies. A line is a call, or none
