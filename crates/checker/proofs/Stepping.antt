@@ -56,11 +56,11 @@ part_push bs len step first n at size b e p short =
     parts_push bs len step first n ∙ ap (λ x. parts_from bs len step first n ++ x ∷ []) (ap (λ k. take len (drop k bs)) here ∙ sym (take-take len size (drop (at + 1) bs) short) ∙ ap (take len) (sym p.is))
 
 -- what would be where a test were both
-never : {X : Type 0} → false ≡ true → X
-never e = absurd (false≢true e)
+false_is_no_true : {X : Type 0} → false ≡ true → X
+false_is_no_true e = absurd (false≢true e)
 
-some_is : {a b : ℕ} → ◌≡◌ {A = Option ℕ} (Some a) (Some b) → a ≡ b
-some_is e = cc
+some_equal : {a b : ℕ} → ◌≡◌ {A = Option ℕ} (Some a) (Some b) → a ≡ b
+some_equal e = cc
 
 -- the places of weights with one more
 places_with_weight : (ws : List Weight) (b : List ℕ) → 2 ≤ length b → places (ws ++ weight_of b ∷ []) ≡ places ws ++ take 2 b ∷ []
@@ -88,7 +88,7 @@ record OfRows (m : Make) : Type 0 where
 of_rows : (m : Make) → is_load m ≡ false → OfRows m
 of_rows Fit e = record { step = refl; len = λ ss. refl; keys = λ t. refl }
 of_rows Bar e = record { step = refl; len = λ ss. refl; keys = λ t. refl }
-of_rows Load e = never (sym e)
+of_rows Load e = false_is_no_true (sym e)
 
 -- and one that takes weights
 record OfWeights (m : Make) : Type 0 where
@@ -97,8 +97,8 @@ record OfWeights (m : Make) : Type 0 where
   keys : (t : Sheet) → keys_of m t ≡ places t.weights
 
 of_weights : (m : Make) → is_load m ≡ true → OfWeights m
-of_weights Fit e = never e
-of_weights Bar e = never e
+of_weights Fit e = false_is_no_true e
+of_weights Bar e = false_is_no_true e
 of_weights Load e = record { step = refl; len = λ ss. refl; keys = λ t. refl }
 
 -- a search among the records before a place, where it begins and the size of the records are known by other terms
@@ -179,8 +179,8 @@ head_newest bs at n b scope first =
 
 -- how many load sheets there are with one sheet more
 pub loads_counted : (m : Make) (n k : ℕ) → Some k ≡ loads_with n m → (k ≡ n + is_one m) × ((is_load m && leb 8 n) ≡ false)
-loads_counted Fit n k e = (omega (arith, some_is e), refl)
-loads_counted Bar n k e = (omega (arith, some_is e), refl)
+loads_counted Fit n k e = (omega (arith, some_equal e), refl)
+loads_counted Bar n k e = (omega (arith, some_equal e), refl)
 loads_counted Load n k e = (grind (arith, nat_tests), grind (arith, nat_tests))
 
 -- What a reading that went well tells.
