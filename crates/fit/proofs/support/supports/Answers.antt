@@ -1,27 +1,33 @@
-use Rattle.std.proofs.Common.{◌≡◌, ℕ, ◌<◌, length, get_or, sym, ap, ◌∙◌, arith}
-use Rattle.sheets.specs.Tables.{option_at}
-use Rattle.sheets.proofs.Reading.{option_in_row}
-use Rattle.fit.proofs.Masking.{filling_none, filling_more, filling_left}
+use Rattle.std.proofs.Common.{ℕ, ◌+◌, arith}
+use Rattle.fit.proofs.Masking.{passing_none, passing_option, passing_full, passing_row, passed_all, passed_full}
+use Rattle.fit.proofs.support.supports.Goals.{then-position-done+then-masks-position+else-done-slots, else-position-done}
 use Rattle.fit.proofs.support.supports.Goals as goal
 
 pub rows-init : goal.rows-init
-rows-init c = filling_none _ _ _ _ _ _ (omega (arith, c.args.sheet.now.scope.short)) c.positions.invariant
+rows-init c = passing_none _ _ _ _ _
 
-pub positions-preserved-then-masks-position : goal.positions-preserved-then-masks-position
-positions-preserved-then-masks-position c =
-    let sheet = c.args.sheet.now in
-    let p : ℕ = c.positions.position in
-    let r : ℕ = get_or c.args.rows.now c.rows.row-index 0 in
-    let is : option_at sheet.entries.now r p ≡ get_or c.row.result.now p 0 = sym (ap (λ l. get_or l p 0) c.row.ensures ∙ option_in_row sheet.entries.now (length sheet.scope.slots.now) r p c.positions-test.true) in
-    let small : get_or c.row.result.now p 0 < 32 = omega (arith, is, c.requires.low.each c.rows.row-index p c.rows-test.true c.positions-test.true) in
-    filling_left _ _ _ _ _ p _ (omega arith) c.if-masks-position.true
-    (filling_more _ _ _ _ _ p c.rows.row-index _ (omega (arith, sheet.scope.short)) small is c.rows.invariant)
+pub loop-position-preserved : goal.loop-position-preserved
+loop-position-preserved c =
+    let p : ℕ = c.loop-position.position in
+    let done : ℕ = c.loop-position.done in
+    let more = passing_option _ _ _ _ _ c.row-option-items.result.now c.rows.row-index c.args.sheet.now.scope.short c.requires.whole c.requires.low c.rows-test.true c.row-option-items.ensures _ p done c.loop-position-test.true c.loop-position.invariant in
+    elim c.if-position-done.branch [
+      | then-position-done+then-masks-position+else-done-slots w ↦
+          rw w.done-is (passing_full _ _ _ _ _ _ c.rows.row-index p (p + 1) done w.if-position-done.true w.if-masks-position.true more)
+      | else-position-done w ↦ rw w.done-is more
+    ]
 
 pub rows-preserved : goal.rows-preserved
 rows-preserved c =
-    let sheet = c.args.sheet.now in
-    let p : ℕ = c.positions.position in
-    let r : ℕ = get_or c.args.rows.now c.rows.row-index 0 in
-    let is : option_at sheet.entries.now r p ≡ get_or c.row.result.now p 0 = sym (ap (λ l. get_or l p 0) c.row.ensures ∙ option_in_row sheet.entries.now (length sheet.scope.slots.now) r p c.positions-test.true) in
-    let small : get_or c.row.result.now p 0 < 32 = omega (arith, is, c.requires.low.each c.rows.row-index p c.rows-test.true c.positions-test.true) in
-    filling_more _ _ _ _ _ p c.rows.row-index _ (omega (arith, sheet.scope.short)) small is c.rows.invariant
+    passing_row _ _ _ _ _ c.row-option-items.result.now c.rows.row-index c.args.sheet.now.scope.short c.requires.whole c.requires.low c.rows-test.true c.row-option-items.ensures _ c.loop-position.position c.loop-position.done c.loop-position-test.false c.loop-position.invariant
+
+pub returns-after-rows : goal.returns-after-rows
+returns-after-rows c = passed_all _ _ _ _ _ _ c.rows.row-index c.rows.done (omega (arith, c.rows.auto.row-index-end, c.rows-test.false)) c.rows.invariant
+
+pub returns-then-done-slots : goal.returns-then-done-slots
+returns-then-done-slots c =
+    let p : ℕ = c.loop-position.position in
+    let done : ℕ = c.loop-position.done in
+    let more = passing_option _ _ _ _ _ c.row-option-items.result.now c.rows.row-index c.args.sheet.now.scope.short c.requires.whole c.requires.low c.rows-test.true c.row-option-items.ensures _ p done c.loop-position-test.true c.loop-position.invariant in
+    passed_full _ _ _ _ _ _ c.rows.row-index (p + 1) (done + 1) c.rows-test.true (omega (arith, c.if-done-slots.true))
+    (passing_full _ _ _ _ _ _ c.rows.row-index p (p + 1) done c.if-position-done.true c.if-masks-position.true more)
