@@ -12,7 +12,7 @@ use Rattle.subject.specs.Refusals.{number_of}
 use Rattle.subject.specs.Problem.{Problem, Real}
 use Rattle.subject.specs.Decisions.{Decision, Open}
 use Rattle.subject.specs.Plans.{Plan}
-use Rattle.subject.specs.Logs.{Reckoned, Refuses, look, try, refuses, look_slot, look_done, try_shut, try_done}
+use Rattle.subject.specs.Logs.{Reckoned, Refuses, look, try, refuses, look_no_slot, look_done, try_shut, try_done}
 use Rattle.subject.proofs.Bits.{some_bit}
 use Rattle.subject.proofs.Standing.{one_refusal}
 use Rattle.planner.specs.Answers.{counts, shows}
@@ -44,7 +44,7 @@ number_23 ShortMemory h = absurd (omega arith)
 
 module _ (P : Problem) (D : List Decision) (G : List Plan) (shut : (s o : ℕ) → Open P D s o → ⊥) where
   look_only : (s n : ℕ) → Refuses P D (look s) n → length P.sizes ≤ s
-  look_only s n (look_slot k) = k
+  look_only s n (look_no_slot k) = k
 
   pub look_dry : (s : ℕ) (r : Result ℕ Refusal) → s < length P.sizes → Reckoned P D G (look s) (shows r) → r ≡ Ok 0
   look_dry s (Ok m) h (look_done k small sees) = ap Ok (⊎_elim (λ e. e) (λ ne. let b = some_bit m m (omega arith) ne in absurd (shut s b.0 ((sees b.0).0 b.1))) (cases_eq m 0))
