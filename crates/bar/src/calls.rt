@@ -12,7 +12,7 @@ use crate::Bar;
 use crate::tally::supports;
 use binder::binders::Binder;
 use binder::marks::Marks;
-use binder::refusal::Refusal;
+use binder::refusal::BinderRefusal;
 use boxes::OptionBox;
 use catalogue::checked::Catalogue;
 use catalogue::make::Make;
@@ -47,18 +47,18 @@ impl<'a> Binder for Bar<'a> {
         self.marks.count
     }
 
-    fn arity(&self, sheet: usize) -> Result<usize, Refusal> {
+    fn arity(&self, sheet: usize) -> Result<usize, BinderRefusal> {
         self.sheets.arity(sheet)
     }
 
-    fn slot_at(&self, sheet: usize, position: usize) -> Result<usize, Refusal> {
+    fn slot_at(&self, sheet: usize, position: usize) -> Result<usize, BinderRefusal> {
         self.sheets.slot_at(sheet, position)
     }
 
     // Closes what the lists that are no rows do not hold. The binder itself stays as it is, so each sheet
     // goes on keeping every list that is not among its rows.
     // The clause `shown` is said whole, as the interface says it: an impl with a clause of its own repeats it.
-    fn show(&mut self, sheet: usize, slate: &mut OptionBox) -> Result<(), Refusal>
+    fn show(&mut self, sheet: usize, slate: &mut OptionBox) -> Result<(), BinderRefusal>
         ensures shown { MatchResult result (λ _. (sheet < (meaning_of self.old).count) × Shown (meaning_of self.old) (meaning_of self.new) sheet slate.old.cells slate.new.cells)
             (λ e. (number_of e ≡ 31) × ((meaning_of self.old).count ≤ sheet) × (self.new ≡ self.old) × (slate.new ≡ slate.old)) }
         ensures stays { self.new ≡ self.old }
@@ -69,11 +69,11 @@ impl<'a> Binder for Bar<'a> {
         Ok(())
     }
 
-    fn mark(&mut self) -> Result<(), Refusal> {
+    fn mark(&mut self) -> Result<(), BinderRefusal> {
         self.marks.add()
     }
 
-    fn undo(&mut self) -> Result<(), Refusal> {
+    fn undo(&mut self) -> Result<(), BinderRefusal> {
         self.marks.drop_newest()
     }
 }

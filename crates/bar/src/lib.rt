@@ -6,7 +6,7 @@ ghost use Rattle.catalogue.specs.declared.make.Make.TheVariants.{Bar as BarMake}
 ghost use Rattle.catalogue.specs.Views.{is_make};
 
 use binder::marks::Marks;
-use sheets::table::Sheets;
+use sheets::table::SheetTable;
 
 pub mod calls;
 mod tally;
@@ -15,7 +15,7 @@ mod tally;
 // only counted.
 #[derive(Drop)]
 pub struct Bar<'a> {
-    sheets: Sheets<'a>,
+    sheets: SheetTable<'a>,
     marks: Marks,
     ghost bars: { is_make BarMake sheets.make ≡ true },
 }

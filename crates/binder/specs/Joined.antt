@@ -3,7 +3,7 @@ use Rattle.std.specs.Prelude.{◌≡◌, ℕ, ◌+◌, ◌-◌, ◌<◌, ◌≤�
 use Rattle.std.proofs.Common.{sym, subst, ⊎_elim, arith}
 use Rattle.std.proofs.lemmas.Bool.{cases_lt, lt-ltb, le-ltb, cond-true, cond-false}
 use Rattle.binder.specs.declared.join.Join.{Join}
-use Rattle.binder.specs.Meaning.{Binding, Proper, Listed, Alike, kept_first}
+use Rattle.binder.specs.Meaning.{Binding, Proper, Listed, SameLists, kept_first}
 
 -- the first k sheets are those of a, the others those of b
 unfoldable pub glue : ℕ → Binding → Binding → Binding
@@ -31,9 +31,9 @@ meaning_of f g j = paired j.both (f j.first) (g j.second)
 pub record Beside (a b m : Binding) : Type 0 where
   pub count : m.count ≡ min (a.count + b.count) 1024
   pub first_scope : (s : ℕ) → s < a.count → m.scope s ≡ a.scope s
-  pub first_kept : (s : ℕ) → s < a.count → Alike (m.kept s) (kept_first a s)
+  pub first_kept : (s : ℕ) → s < a.count → SameLists (m.kept s) (kept_first a s)
   pub second_scope : (s : ℕ) → m.scope (a.count + s) ≡ b.scope s
-  pub second_kept : (s : ℕ) → Alike (m.kept (a.count + s)) (kept_first b s)
+  pub second_kept : (s : ℕ) → SameLists (m.kept (a.count + s)) (kept_first b s)
   pub marks : m.marks ≡ 0
 
 pub glue_first : (k : ℕ) (a b : Binding) (s : ℕ) → s < k → (glue k a b).scope s ≡ a.scope s

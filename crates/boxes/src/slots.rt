@@ -1,13 +1,13 @@
 // Sets of slots as numbers: slot s is in a set where bit s of it is one.
 ghost use Rattle.std.specs.Prelude.{◌≡◌, length, Decides};
-ghost use Rattle.boxes.specs.Slots.{Whole, Lone, Added, Apart, Changed};
+ghost use Rattle.boxes.specs.Slots.{EverySlot, Lone, Added, Disjoint, Changed};
 
 use crate::{OptionBox, SLOTS};
 
 // The set of every slot that a box covers.
 #[tactic(auto, using(crate::proofs::Sets::whole))]
 pub fn all_slots() -> u64
-    ensures { Whole result }
+    ensures { EverySlot result }
 {
     (1 << SLOTS) - 1
 }
@@ -31,7 +31,7 @@ pub fn with_slot(set: u64, slot: usize) -> u64
 // Whether two sets have no slot in common.
 #[tactic(auto, using(crate::proofs::Sets::apart))]
 pub fn apart(set: u64, other: u64) -> bool
-    ensures { Decides result (Apart set other) }
+    ensures { Decides result (Disjoint set other) }
 {
     set & other == 0
 }

@@ -14,7 +14,7 @@ use Rattle.commands.specs.Lines.{lines_of, Whole}
 use Rattle.commands.specs.Parsing.{call_of}
 use Rattle.commands.proofs.Splitting.{cut_whole}
 use Rattle.session.specs.Runs.{logged}
-use Rattle.session.specs.Law.{Held, Ran}
+use Rattle.session.specs.Law.{Led, Ran}
 use Rattle.session.specs.declared.state.Session.{Session}
 use Rattle.session.proofs.Laws.{held_law}
 use Rattle.session.proofs.Batches.{ran_on}

@@ -11,7 +11,7 @@ use Rattle.catalogue.specs.Wording.{counts_line, fault_line}
 use Rattle.binder.specs.declared.binders.Binder.{Ghosts}
 use Rattle.binder.specs.Meaning.{Binding}
 use Rattle.plain.specs.Plain.{problem_in}
-use Rattle.session.specs.Law.{Held, box_of}
+use Rattle.session.specs.Law.{Led, box_of}
 use Rattle.session.specs.declared.state.Session.{Session}
 use Rattle.dialogue.specs.Talk.{reply_lines, Served}
 use Rattle.dialogue.specs.Program.{First, Talked, Says, Told}
@@ -51,7 +51,7 @@ told_fault file fault had was mid is faulty wrote kept = record {
 
 -- an accepted file, and the input that was answered
 pub told_accepted : {B : Type 0} {bound : Ghosts B} (meaning : B → Binding) (file : List ℕ) (counts : Counts) (had left was mid kept is : Option (List ℕ)) (s t : Session B bound) → verdict file ≡ Ok counts
-    → Held meaning (problem_in file) [] s → Appends was mid (counts_line counts ++ 10 ∷ []) → Keeps mid kept → Served meaning had left kept is s t → Told file had was is
+    → Led meaning (problem_in file) [] s → Appends was mid (counts_line counts ++ 10 ∷ []) → Keeps mid kept → Served meaning had left kept is s t → Told file had was is
 told_accepted meaning file counts had left was mid kept is s t accepted held wrote same served =
     let line = counts_line counts ++ 10 ∷ [] in
     let a = served.answered in

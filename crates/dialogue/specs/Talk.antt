@@ -10,7 +10,7 @@ use Rattle.binder.specs.declared.binders.Binder.{Ghosts}
 use Rattle.binder.specs.Meaning.{Binding}
 use Rattle.commands.specs.Lines.{lines_of}
 use Rattle.commands.specs.Parsing.{call_of}
-use Rattle.session.specs.Law.{Held, Ran}
+use Rattle.session.specs.Law.{Led, Ran}
 use Rattle.session.specs.declared.state.Session.{Session}
 
 -- the calls that the lines of an input make: a line of another form makes none
@@ -31,7 +31,7 @@ pub record Answered {B : Type 0} {bound : Ghosts B} (meaning : B → Binding) (i
   pub replies : List Reply
   pub worded : words ≡ reply_lines replies
   pub each : length replies ≡ length (calls_in input)
-  pub ran : (P : Problem) (L : Log) → Held meaning P L s → Ran meaning P L (calls_in input) replies (length replies) 48 t
+  pub ran : (P : Problem) (L : Log) → Led meaning P L s → Ran meaning P L (calls_in input) replies (length replies) 48 t
 
 -- An input that had some bytes has those left: the others are its first 65,536, or all where there are fewer. Their lines
 -- were answered, and the bytes of the writer grew by the words.

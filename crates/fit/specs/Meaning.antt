@@ -12,7 +12,7 @@ use Rattle.boxes.specs.Boxes.{Fits}
 use Rattle.binder.specs.Meaning.{Binding, Proper, Listed}
 use Rattle.sheets.specs.Tables.{scope_in}
 use Rattle.fit.specs.Runs.{Among}
-use Rattle.fit.specs.Laid.{scope_of, row_count, row_of, Laid}
+use Rattle.fit.specs.Laid.{scope_shown, row_count, row_of, Laid}
 use Rattle.fit.specs.declared.Fit.{Fit}
 
 -- one of the first n places of the run of sheet s holds a row that reads as l
@@ -52,8 +52,8 @@ pub record Exact (m n : Binding) (s : ℕ) (b : List ℕ) : Type 0 where
   pub just : (l : List ℕ) → Decides (n.kept s l) ((m.kept s l ≡ true) × Fits b (m.scope s) l)
 
 -- Laws of these definitions.
-pub scope_here : (views : List View) (count s : ℕ) → s < count → scope_in views count s ≡ scope_of views s
-scope_here views count s h = cond-true (nat_lt s count) (scope_of views s) [] (lt-ltb s count h)
+pub scope_here : (views : List View) (count s : ℕ) → s < count → scope_in views count s ≡ scope_shown views s
+scope_here views count s h = cond-true (nat_lt s count) (scope_shown views s) [] (lt-ltb s count h)
 
 same_to : (xs ys : List ℕ) → same xs ys ≡ true → xs ≡ ys
 same_to [] [] t = refl
@@ -127,14 +127,14 @@ module _ (views : List View) (count : ℕ) (starts order counts : List ℕ) (sav
   listed_row x s n l le k =
       let a = k.1.among in
       let there : k.1.row < row_count views s = subst (λ r. r < row_count views s) a.is (x.rows s a.place k.0 (omega (arith, a.below))) in
-      let long : length (row_of views s k.1.row) ≡ length (scope_of views s) = x.sound.long s k.1.row k.0 there in
-      let low : (p : ℕ) → p < length (scope_of views s) → slice_index (row_of views s k.1.row) p < 32 = λ p h. x.sound.options s k.1.row p k.0 there h in
+      let long : length (row_of views s k.1.row) ≡ length (scope_shown views s) = x.sound.long s k.1.row k.0 there in
+      let low : (p : ℕ) → p < length (scope_shown views s) → slice_index (row_of views s k.1.row) p < 32 = λ p h. x.sound.options s k.1.row p k.0 there h in
       subst (λ sc. Listed sc l) (sym (scope_here views count s k.0))
-      (subst (Listed (scope_of views s)) k.1.reads (record { long = long; low = low }))
+      (subst (Listed (scope_shown views s)) k.1.reads (record { long = long; low = low }))
 
   pub fitting_proper : Laid views count starts order counts saved marks → Proper (fitting views count starts order counts saved marks)
   fitting_proper x =
-      let here : (s : ℕ) → s < count → scope_of views s ≡ scope_in views count s = λ s h. sym (scope_here views count s h) in
+      let here : (s : ℕ) → s < count → scope_shown views s ≡ scope_in views count s = λ s h. sym (scope_here views count s h) in
       record {
         few = omega (arith, x.few);
         low = x.low;

@@ -4,7 +4,7 @@ ghost use Rattle.own_binder.specs.Lone.{lone, meaning_of, proper_of};
 
 use binder::binders::Binder;
 use binder::marks::Marks;
-use binder::refusal::Refusal;
+use binder::refusal::BinderRefusal;
 use boxes::OptionBox;
 
 // The slot, and how many marks stand: what the sheet keeps never changes.
@@ -37,33 +37,33 @@ impl Binder for Lone {
         self.marks.count
     }
 
-    fn arity(&self, sheet: usize) -> Result<usize, Refusal> {
+    fn arity(&self, sheet: usize) -> Result<usize, BinderRefusal> {
         if sheet >= 1 {
-            return Err(Refusal::NotThere);
+            return Err(BinderRefusal::NotThere);
         }
         Ok(1)
     }
 
-    fn slot_at(&self, sheet: usize, position: usize) -> Result<usize, Refusal> {
+    fn slot_at(&self, sheet: usize, position: usize) -> Result<usize, BinderRefusal> {
         if sheet >= 1 || position >= 1 {
-            return Err(Refusal::NotThere);
+            return Err(BinderRefusal::NotThere);
         }
         Ok(self.slot)
     }
 
     // Each open option is held by the list of that option alone, so nothing closes.
-    fn show(&mut self, sheet: usize, _slate: &mut OptionBox) -> Result<(), Refusal> {
+    fn show(&mut self, sheet: usize, _slate: &mut OptionBox) -> Result<(), BinderRefusal> {
         if sheet >= 1 {
-            return Err(Refusal::NotThere);
+            return Err(BinderRefusal::NotThere);
         }
         Ok(())
     }
 
-    fn mark(&mut self) -> Result<(), Refusal> {
+    fn mark(&mut self) -> Result<(), BinderRefusal> {
         self.marks.add()
     }
 
-    fn undo(&mut self) -> Result<(), Refusal> {
+    fn undo(&mut self) -> Result<(), BinderRefusal> {
         self.marks.drop_newest()
     }
 }

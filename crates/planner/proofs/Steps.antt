@@ -16,7 +16,7 @@ use Rattle.boxes.specs.Boxes.{opens, Fixed, Closed}
 use Rattle.boxes.proofs.Bits.{open_same}
 use Rattle.boxes.proofs.Counting.{opens_is}
 use Rattle.binder.specs.declared.binders.Binder.{Ghosts}
-use Rattle.binder.specs.Meaning.{Binding, Alike, Noted, Undone}
+use Rattle.binder.specs.Meaning.{Binding, SameLists, Noted, Undone}
 use Rattle.boxes.specs.Slots.{Lone}
 use Rattle.settle.specs.Keeping.{Has, Keeps}
 use Rattle.settle.specs.Reach.{masks_of, Covers, Resting}
@@ -72,7 +72,7 @@ saved_set P (struck s o ∷ D) saved marked d j b k h = saved_set P D saved mark
 
 -- nor do marks at or past the depth
 pub saved_marked : (P : Problem) (D : List Decision) (saved : List OptionBox) (marked marked' : ℕ → ℕ → List ℕ → Bool) (d : ℕ)
-    → ((i s : ℕ) → i < d → Alike (marked' i s) (marked i s)) → Saved P D saved marked d → Saved P D saved marked' d
+    → ((i s : ℕ) → i < d → SameLists (marked' i s) (marked i s)) → Saved P D saved marked d → Saved P D saved marked' d
 saved_marked P [] saved marked marked' d f h = h
 saved_marked P (tried s o ∷ D) saved marked marked' d f h =
     (h.0, h.1, h.2, keeps_same P _ _ _ (λ s'. f h.0 s' (omega (arith, h.1))) h.3, saved_marked P D saved marked marked' h.0 (λ i s' lt. f i s' (omega (arith, h.1))) h.4)

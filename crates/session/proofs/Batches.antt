@@ -12,7 +12,7 @@ use Rattle.subject.specs.Logs.{Log}
 use Rattle.binder.specs.declared.binders.Binder.{Ghosts}
 use Rattle.binder.specs.Meaning.{Binding}
 use Rattle.session.specs.Runs.{entered, logged, Fitting}
-use Rattle.session.specs.Law.{Held, box_of, Law, Ran}
+use Rattle.session.specs.Law.{Led, box_of, Law, Ran}
 use Rattle.session.specs.declared.state.Session.{Session}
 
 module _ (n : ℕ) (first second : List (Option Call)) (rs ss : List Reply) (L : Log) where
@@ -47,7 +47,7 @@ ran_on meaning P L n first second rs ss t u e was more =
     let all : logged n (first ++ second) (rs ++ ss) (length (rs ++ ss)) L ≡ logged n second ss (length ss) M =
     logged_behind n first second rs ss L e (length ss) (length (rs ++ ss)) long in
     record {
-      held = subst (λ K. Held meaning P K u) (sym all) more.held;
+      held = subst (λ K. Led meaning P K u) (sym all) more.held;
       law = subst (λ K. Law P K (box_of u)) (sym all) more.law;
       fitting = λ i lt.
           ⊎_elim

@@ -7,10 +7,10 @@ use Rattle.boxes.specs.Boxes as Cells
 use Rattle.subject.specs.Decisions.{Decision, Largest}
 use Rattle.subject.specs.Decisions as Deciding
 use Rattle.boxes.specs.Boxes.{Open, opens, Within, Bit}
-use Rattle.boxes.specs.Slots.{Apart}
+use Rattle.boxes.specs.Slots.{Disjoint}
 use Rattle.boxes.proofs.Bits.{open_there}
 use Rattle.boxes.proofs.Counting.{opens_is}
-use Rattle.binder.specs.Meaning.{Binding, Alike}
+use Rattle.binder.specs.Meaning.{Binding, SameLists}
 use Rattle.settle.specs.Keeping.{Has, Keeps, Framed, Backed, Based}
 use Rattle.settle.specs.Reach.{Covering, Covers, Holding, Rests, Resting}
 use Rattle.settle.specs.Settled.{Settled, Lives, Under, Upheld, Tight, Alive}
@@ -20,7 +20,7 @@ use Rattle.settle.proofs.Tight.{fits_less, Rested, holding_all}
 pub keeps_less : (P : Problem) (X Y : Box) (k : ℕ → List ℕ → Bool) → Inside Y X → Keeps P X k → Keeps P Y k
 keeps_less P X Y k f h = record { ruled = h.ruled; fitting = λ s l a t. h.fitting s l a (t.0, λ i lt. f _ _ (t.1 i lt)) }
 
-pub keeps_same : (P : Problem) (X : Box) (k j : ℕ → List ℕ → Bool) → ((s : ℕ) → Alike (j s) (k s)) → Keeps P X k → Keeps P X j
+pub keeps_same : (P : Problem) (X : Box) (k j : ℕ → List ℕ → Bool) → ((s : ℕ) → SameLists (j s) (k s)) → Keeps P X k → Keeps P X j
 keeps_same P X k j e h = record { ruled = λ s l t. h.ruled s l (subst T (e s l) t); fitting = λ s l a t. subst T (sym (e s l)) (h.fitting s l a t) }
 
 pub has_framed : (P : Problem) (m n : Binding) → Has P m → Framed m n → Has P n
@@ -135,7 +135,7 @@ covers_has P m masks has = covers_same P.sheets m.count P.scope m.scope masks ha
 -- Sheets that name no slot of the set hold what is open, since they did in the box that it is based on.
 pub resting_based : (P : Problem) (m : Binding) (masks b : List ℕ) (Z : Box) (set : ℕ) → Has P m → Keeps P Z m.kept → Covers m.count m.scope masks → Based P Z (opens b) set
     → Resting m masks b set
-unfolding Apart
+unfolding Disjoint
 resting_based P m masks b Z set has keeps covers base = record {
   each = λ s hs apart p o hp h.
       let e = has.scope s in
@@ -153,7 +153,7 @@ resting_based P m masks b Z set has keeps covers base = record {
 
 -- where every slot is lost, every sheet is asked
 pub resting_none : (m : Binding) (masks b : List ℕ) (set : ℕ) → length b ≡ 48 → ((t : ℕ) → t < 48 → Bit set t) → Covers m.count m.scope masks → Resting m masks b set
-unfolding Apart
+unfolding Disjoint
 resting_none m masks b set long all covers = record {
   each = λ s hs apart p o hp h. let low : get_or (m.scope s) p 0 < 48 = subst (λ x. get_or (m.scope s) p 0 < x) long (open_there b _ o h) in absurd (apart _ (covers.each s hs p hp low) (all _ low));
 }

@@ -7,7 +7,7 @@ use Rattle.std.proofs.lemmas.Nat.Bits.{bit_at-zero}
 use Rattle.boxes.specs.Boxes.{Bit}
 use Rattle.boxes.specs.Slots.{Added}
 use Rattle.binder.specs.Meaning.{Binding, arity_of, slot_at}
-use Rattle.binder.specs.declared.refusal.Refusal.{Refusal}
+use Rattle.binder.specs.declared.refusal.BinderRefusal.{BinderRefusal}
 use Rattle.binder.specs.Refusals.{numbered}
 use Rattle.binder.proofs.Numbers.{value_or}
 use Rattle.settle.specs.Reach.{Named, Covering, Covers}
@@ -77,10 +77,10 @@ if_not_lt a b x y h = go (nat_lt a b) (λ t. let k = ltb→lt a b t in absurd (o
     go false f = refl
 
 -- the number of positions of a sheet that is there; none where it is not
-pub positions : (m : Binding) (s n : ℕ) (r : Result ℕ Refusal) → numbered r ≡ arity_of m s → n ≡ result_unwrap_or r 0 → s < m.count → n ≡ length (m.scope s)
+pub positions : (m : Binding) (s n : ℕ) (r : Result ℕ BinderRefusal) → numbered r ≡ arity_of m s → n ≡ result_unwrap_or r 0 → s < m.count → n ≡ length (m.scope s)
 positions m s n r e f h = f ∙ value_or r 0 ∙ ap (λ x. result_unwrap_or x 0) (e ∙ if_lt s m.count _ _ h)
 
-pub there : (m : Binding) (s n p : ℕ) (r : Result ℕ Refusal) → numbered r ≡ arity_of m s → n ≡ result_unwrap_or r 0 → p < n → s < m.count
+pub there : (m : Binding) (s n p : ℕ) (r : Result ℕ BinderRefusal) → numbered r ≡ arity_of m s → n ≡ result_unwrap_or r 0 → p < n → s < m.count
 there m s n p r e f h = go (nat_lt s m.count) refl (f ∙ value_or r 0 ∙ ap (λ x. result_unwrap_or x 0) e)
   where
     go : (t : Bool) → nat_lt s m.count ≡ t → n ≡ result_unwrap_or {E = ℕ} (cond t (Ok (length (m.scope s))) (Err 31)) 0 → s < m.count
@@ -88,7 +88,7 @@ there m s n p r e f h = go (nat_lt s m.count) refl (f ∙ value_or r 0 ∙ ap (�
     go false q g = absurd (omega (arith, g, h))
 
 -- the slot at a position that is there
-pub slot_is : (m : Binding) (s p slot : ℕ) (r : Result ℕ Refusal) → numbered r ≡ slot_at m s p → slot ≡ result_unwrap_or r 48 → s < m.count → p < length (m.scope s) → slot ≡ get_or (m.scope s) p 0
+pub slot_is : (m : Binding) (s p slot : ℕ) (r : Result ℕ BinderRefusal) → numbered r ≡ slot_at m s p → slot ≡ result_unwrap_or r 48 → s < m.count → p < length (m.scope s) → slot ≡ get_or (m.scope s) p 0
 slot_is m s p slot r e f h k = f ∙ value_or r 48 ∙ ap (λ x. result_unwrap_or x 48) (e ∙ if_lt s m.count _ _ h ∙ if_lt p (length (m.scope s)) _ _ k)
 
 -- ---- the table

@@ -5,10 +5,10 @@ use Rattle.subject.specs.Boxes as Subject
 use Rattle.subject.specs.Boxes.{Box, opened}
 use Rattle.subject.proofs.Bits as Number
 use Rattle.boxes.specs.Boxes.{Open, opens, Fits, Within, Bit}
-use Rattle.boxes.specs.Slots.{Apart, Changed}
+use Rattle.boxes.specs.Slots.{Disjoint, Changed}
 use Rattle.boxes.proofs.Bits.{open_same, open_there}
 use Rattle.boxes.proofs.Counting.{differ_less}
-use Rattle.binder.specs.Meaning.{Binding, Held, Shown, Alike}
+use Rattle.binder.specs.Meaning.{Binding, Held, Shown, SameLists}
 use Rattle.settle.specs.Keeping.{Framed}
 use Rattle.settle.specs.Reach.{Covering, Holding, Rests}
 use Rattle.settle.specs.Settled.{Under, Upheld, Tight, Passed}
@@ -40,10 +40,10 @@ fits_less b c scope l less f = record { long = f.long; each = λ p h. less (get_
 pub fits_under : (Y : Box) (b scope l : List ℕ) → Under Y b → Subject.Fits Y scope l → Fits b scope l
 fits_under Y b scope l w f = record { long = f.0; each = λ p h. w (get_or scope p 0) (get_or l p 0) (f.1 p h) }
 
-to : (f g : List ℕ → mathlib.Core.Bool.Bool) (l : List ℕ) → Alike g f → T (f l) → T (g l)
+to : (f g : List ℕ → mathlib.Core.Bool.Bool) (l : List ℕ) → SameLists g f → T (f l) → T (g l)
 to f g l e t = subst T (sym (e l)) t
 
-from : (f g : List ℕ → mathlib.Core.Bool.Bool) (l : List ℕ) → Alike g f → T (g l) → T (f l)
+from : (f g : List ℕ → mathlib.Core.Bool.Bool) (l : List ℕ) → SameLists g f → T (g l) → T (f l)
 from f g l e t = subst T (e l) t
 
 pub framed_none : (m : Binding) → Framed m m
@@ -135,11 +135,11 @@ passed_more m n k masks lost a c e s hs was shown =
     }
 
 -- one sheet more was spared, since it names no lost slot
-pub passed_spared : (m n : Binding) (masks : List ℕ) (lost : ℕ) (a c : List ℕ) (s : ℕ) → s < m.count → Passed m n masks lost a c s → Apart (get_or masks s 0) lost → Passed m n masks lost a c (s + 1)
+pub passed_spared : (m n : Binding) (masks : List ℕ) (lost : ℕ) (a c : List ℕ) (s : ℕ) → s < m.count → Passed m n masks lost a c s → Disjoint (get_or masks s 0) lost → Passed m n masks lost a c (s + 1)
 passed_spared m n masks lost a c s hs was apart = record {
   tight = was.tight;
   backs = λ t p o ht r hp h. ⊎_elim
-      (λ q. r (subst (λ x. Apart (get_or masks x 0) lost) (sym q) apart) p o hp (was.tight.within (get_or (m.scope t) p 0) o h))
+      (λ q. r (subst (λ x. Disjoint (get_or masks x 0) lost) (sym q) apart) p o hp (was.tight.within (get_or (m.scope t) p 0) o h))
       (λ ne. was.backs t p o (omega arith) r hp h)
       (cases_eq t s);
 }
@@ -147,7 +147,7 @@ passed_spared m n masks lost a c s hs was apart = record {
 -- After a round a sheet holds what is open, unless it names one of the slots which changed in it.
 pub rests_on : (m n : Binding) (masks : List ℕ) (lost new : ℕ) (b c : List ℕ) → length b ≡ 48 → Passed m n masks lost b c m.count → Changed c b 48 new → (s : ℕ) → s < m.count
     → Covering (m.scope s) (get_or masks s 0) → Rests m masks b lost s → Rests n masks c new s
-unfolding Apart
+unfolding Disjoint
 rests_on m n masks lost new b c long passed changed s hs covers rest apart p o hp h =
     let e : n.scope s ≡ m.scope s = passed.tight.framed.sheets.scope s in
     let w : Held m b s p o = passed.backs s p o hs rest (subst (λ x. p < length x) e hp) (subst (λ x. Open c (get_or x p 0) o) e h) in
@@ -181,7 +181,7 @@ rested_more m n k masks lost old new a b c long framed passed changed was = reco
 -- nothing changed any more: the sheet holds what is open
 pub holding_all : (m n : Binding) (masks : List ℕ) (lost new : ℕ) (a c : List ℕ) → new ≡ 0 → Rested m n masks lost new a c → (s : ℕ) → s < m.count → Covering (m.scope s) (get_or masks s 0) → Rests m masks a lost s
     → Holding n c s
-unfolding Apart
+unfolding Disjoint
 holding_all m n masks lost new a c none was s hs covers rest = was.each s hs covers rest (λ t x y. no_bit t (subst (λ z. Bit z t) none y))
 
 -- a round in which something changed leaves less open

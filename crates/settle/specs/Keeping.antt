@@ -3,7 +3,7 @@ use Rattle.std.specs.Prelude.{◌≡◌, ℕ, ◌<◌, Bool, T, List}
 use Rattle.subject.specs.Problem.{Problem, Names}
 use Rattle.subject.specs.Boxes.{Box, Inside, Fits, Supports}
 use Rattle.boxes.specs.Boxes.{Bit}
-use Rattle.binder.specs.Meaning.{Binding, SameSheets, Alike}
+use Rattle.binder.specs.Meaning.{Binding, SameSheets, SameLists}
 
 -- the binder has the sheets and scopes of the problem
 pub record Has (P : Problem) (m : Binding) : Type 0 where
@@ -19,7 +19,7 @@ pub record Keeps (P : Problem) (X : Box) (k : ℕ → List ℕ → Bool) : Type 
 pub record Framed (m n : Binding) : Type 0 where
   pub sheets : SameSheets m n
   pub marks : n.marks ≡ m.marks
-  pub marked : (i t : ℕ) → Alike (n.marked i t) (m.marked i t)
+  pub marked : (i t : ℕ) → SameLists (n.marked i t) (m.marked i t)
 
 -- each option that the box opens is supported by every sheet that names its slot
 abbrev pub Backed : Problem → Box → Type 0

@@ -1,7 +1,7 @@
 -- Which sheets name which slots, as a table. Assumes nothing.
 use Rattle.std.specs.Prelude.{◌≡◌, ℕ, ◌<◌, List, length, slice_index}
 use Rattle.boxes.specs.Boxes.{Open, Bit}
-use Rattle.boxes.specs.Slots.{Apart}
+use Rattle.boxes.specs.Slots.{Disjoint}
 use Rattle.binder.specs.Meaning.{Binding, Held}
 use Rattle.settle.specs.declared.reach.Reach.{Reach}
 
@@ -29,7 +29,7 @@ Holding m b s = (p o : ℕ) → p < length (m.scope s) → Open b (slice_index (
 
 -- sheet s names a slot of a set, or it holds what is open at its slots
 abbrev pub Rests : Binding → List ℕ → List ℕ → ℕ → ℕ → Type 0
-Rests m masks b set s = Apart (slice_index masks s) set → Holding m b s
+Rests m masks b set s = Disjoint (slice_index masks s) set → Holding m b s
 
 -- so does each sheet
 pub record Resting (m : Binding) (masks b : List ℕ) (set : ℕ) : Type 0 where

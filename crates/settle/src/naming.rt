@@ -1,6 +1,6 @@
 // Asks a binder which slots its sheets name, and the table which sheets name a slot of a set.
 ghost use Rattle.std.specs.Prelude.{ℕ, Decides, slice_index};
-ghost use Rattle.boxes.specs.Slots.{Apart};
+ghost use Rattle.boxes.specs.Slots.{Disjoint};
 ghost use Rattle.settle.specs.Reach.{masks_of, Named};
 
 use crate::reach::Reach;
@@ -34,7 +34,7 @@ impl Reach {
 
     // Whether a sheet names no slot of a set.
     pub(crate) fn spares(&self, sheet: usize, set: u64) -> bool
-        ensures { Decides result (Apart (slice_index self.now.masks sheet) set) }
+        ensures { Decides result (Disjoint (slice_index self.now.masks sheet) set) }
     {
         apart(self.masks.get(sheet).copied().unwrap_or(0), set)
     }

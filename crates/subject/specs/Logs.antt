@@ -1,7 +1,7 @@
 -- Calls, answers and logs: what stands after a list of calls, and what a call is answered then. Assumes nothing.
 use Rattle.std.specs.Prelude.{◌≡◌, ℕ, ◌/◌, ◌%◌, ◌^◌, ◌<◌, ◌≤◌, Bool, true, false, ◌⊎◌, ◌↔◌, List, [], ◌∷◌, map, length, slice_index}
 use Rattle.subject.specs.Problem.{Problem, Real}
-use Rattle.subject.specs.Decisions.{Decision, tried, struck, Open, Counts, tries, undone}
+use Rattle.subject.specs.Decisions.{Decision, tried, struck, Open, OpenCount, tries, undone}
 use Rattle.subject.specs.Plans.{Plan, First, NoMore}
 
 -- try and strike have a slot and an option, look has a slot, next has the length of the plan memory
@@ -77,9 +77,9 @@ Bit m o = (m / 2 ^ o) % 2 ≡ 1
 -- The answer to a call, while the decisions D stand and the plans G were given since the last begin.
 pub data Reckoned (P : Problem) (D : List Decision) (G : List Plan) : Call → Answer → Type 0 where
   refuses : {c : Call} {n : ℕ} → Refuses P D c n → Reckoned P D G c (refused n)
-  try_done : {s o n : ℕ} → Open P D s o → tries D < 16 → Counts P (tried s o ∷ D) n → Reckoned P D G (try s o) (count n)
-  strike_done : {s o n : ℕ} → Open P D s o → Counts P (struck s o ∷ D) n → Reckoned P D G (strike s o) (count n)
-  back_done : {n : ℕ} → 0 < tries D → Counts P (undone D) n → Reckoned P D G back (count n)
+  try_done : {s o n : ℕ} → Open P D s o → tries D < 16 → OpenCount P (tried s o ∷ D) n → Reckoned P D G (try s o) (count n)
+  strike_done : {s o n : ℕ} → Open P D s o → OpenCount P (struck s o ∷ D) n → Reckoned P D G (strike s o) (count n)
+  back_done : {n : ℕ} → 0 < tries D → OpenCount P (undone D) n → Reckoned P D G back (count n)
   look_done : {s m : ℕ} → s < length P.sizes → m < 2 ^ 32 → ((o : ℕ) → Bit m o ↔ Open P D s o) → Reckoned P D G (look s) (bits m)
   begin_done : Reckoned P D G begin done
   end_done : Reckoned P D G end done

@@ -1,6 +1,6 @@
 use Rattle.std.proofs.Common.{sym, ap, subst, arith}
 use Rattle.sheets.proofs.Scopes.{GoodScope, scope_at}
-use Rattle.sheets.proofs.table.Sheets.sheet.Goals as goal
+use Rattle.sheets.proofs.table.SheetTable.sheet.Goals as goal
 
 pub invariant_of-result : goal.invariant_of-result
 invariant_of-result c =

@@ -1,7 +1,7 @@
 use Rattle.std.proofs.Common.{unwrap_or, ap, ◌∙◌, arith}
 use Rattle.catalogue.specs.Views.{shown_by}
 use Rattle.sheets.proofs.Tabled.{shown_or}
-use Rattle.sheets.proofs.table.Sheets.view.Goals as goal
+use Rattle.sheets.proofs.table.SheetTable.view.Goals as goal
 
 pub returns : goal.returns
 returns c =
