@@ -5,7 +5,7 @@ use lib.Count.{ones, ones_cat}
 use Rattle.std.proofs.lemmas.Bool.{cases_eq}
 use Rattle.std.proofs.lemmas.Nat.{mod-pow-add, mod_below, pow_pos}
 use Rattle.boxes.specs.Boxes.{Bit}
-use Rattle.bar.specs.Counted.{Counts}
+use Rattle.bar.specs.Counted.{HowMany}
 use Rattle.bar.proofs.Counting.{counts_none, counts_yes, counts_no}
 
 ones_more : (n k : ℕ) → ones (n % 2 ^ suc k) ≡ ones ((n / 2 ^ k) % 2) + ones (n % 2 ^ k)
@@ -21,22 +21,22 @@ ones_one : ones 1 ≡ 1
 unfolding ones
 ones_one = refl
 
-counts_bits : (n k : ℕ) → Counts (Bit n) k (ones (n % 2 ^ k))
+counts_bits : (n k : ℕ) → HowMany (Bit n) k (ones (n % 2 ^ k))
 unfolding Bit
-counts_bits n zero = subst (λ (c : ℕ). Counts (Bit n) 0 c) (sym (ap ones (mod-one n) ∙ ones_zero)) (counts_none (Bit n))
+counts_bits n zero = subst (λ (c : ℕ). HowMany (Bit n) 0 c) (sym (ap ones (mod-one n) ∙ ones_zero)) (counts_none (Bit n))
 counts_bits n (suc k) =
-    let was : Counts (Bit n) k (ones (n % 2 ^ k)) = counts_bits n k in
-    subst (λ (m : ℕ). Counts (Bit n) m (ones (n % 2 ^ suc k))) (add-one k)
+    let was : HowMany (Bit n) k (ones (n % 2 ^ k)) = counts_bits n k in
+    subst (λ (m : ℕ). HowMany (Bit n) m (ones (n % 2 ^ suc k))) (add-one k)
     (⊎_elim
-    (λ e. subst (λ (c : ℕ). Counts (Bit n) (k + 1) c)
+    (λ e. subst (λ (c : ℕ). HowMany (Bit n) (k + 1) c)
     (let f : ones ((n / 2 ^ k) % 2) ≡ 1 = ap ones e ∙ ones_one in omega (arith, ones_more n k))
     (counts_yes (Bit n) k (ones (n % 2 ^ k)) was e))
-    (λ ne. subst (λ (c : ℕ). Counts (Bit n) (k + 1) c)
+    (λ ne. subst (λ (c : ℕ). HowMany (Bit n) (k + 1) c)
     (let z : (n / 2 ^ k) % 2 ≡ 0 = omega arith in
     let f : ones ((n / 2 ^ k) % 2) ≡ 0 = ap ones z ∙ ones_zero in omega (arith, ones_more n k))
     (counts_no (Bit n) k (ones (n % 2 ^ k)) was ne))
     (cases_eq ((n / 2 ^ k) % 2) 1))
 
 -- as many as `count_ones` says
-pub counts_ones : (n k : ℕ) → n < 2 ^ k → Counts (Bit n) k (ones n)
-counts_ones n k h = subst (λ (m : ℕ). Counts (Bit n) k (ones m)) (mod-eq_of_lt h) (counts_bits n k)
+pub counts_ones : (n k : ℕ) → n < 2 ^ k → HowMany (Bit n) k (ones n)
+counts_ones n k h = subst (λ (m : ℕ). HowMany (Bit n) k (ones m)) (mod-eq_of_lt h) (counts_bits n k)

@@ -1,13 +1,13 @@
 -- Counting the numbers below n that meet P. Assumes nothing.
 use Rattle.std.proofs.Common.{ℕ, ◌+◌, ◌<◌, [], ◌∷◌, sym, refl, subst, inl, inr, ⊎_elim, arith}
 use Rattle.std.proofs.lemmas.Bool.{cases_eq}
-use Rattle.bar.specs.Counted.{Counts}
+use Rattle.bar.specs.Counted.{HowMany}
 
 module _ (P : ℕ → Type 0) where
-  pub counts_none : Counts P 0 0
+  pub counts_none : HowMany P 0 0
   counts_none = record { list = []; long = refl; once = tt; sound = λ v i. absurd i; complete = λ v h q. absurd (omega arith); few = omega arith }
 
-  pub counts_yes : (n c : ℕ) → Counts P n c → P n → Counts P (n + 1) (c + 1)
+  pub counts_yes : (n c : ℕ) → HowMany P n c → P n → HowMany P (n + 1) (c + 1)
   counts_yes n c k here = record {
     list = n ∷ k.list;
     long = omega (arith, k.long);
@@ -17,7 +17,7 @@ module _ (P : ℕ → Type 0) where
     few = omega (arith, k.few);
   }
 
-  pub counts_no : (n c : ℕ) → Counts P n c → (P n → ⊥) → Counts P (n + 1) c
+  pub counts_no : (n c : ℕ) → HowMany P n c → (P n → ⊥) → HowMany P (n + 1) c
   counts_no n c k none = record {
     list = k.list;
     long = k.long;
@@ -28,7 +28,7 @@ module _ (P : ℕ → Type 0) where
   }
 
 -- the same count of what is met by the same numbers
-pub counts_same : (P Q : ℕ → Type 0) (n c : ℕ) → ((v : ℕ) → v < n → P v → Q v) → ((v : ℕ) → v < n → Q v → P v) → Counts P n c → Counts Q n c
+pub counts_same : (P Q : ℕ → Type 0) (n c : ℕ) → ((v : ℕ) → v < n → P v → Q v) → ((v : ℕ) → v < n → Q v → P v) → HowMany P n c → HowMany Q n c
 counts_same P Q n c to from k = record {
   list = k.list;
   long = k.long;

@@ -7,7 +7,7 @@ use Rattle.std.proofs.lemmas.List.{get_or-replicate, drop_at, drop-drop, drop-ap
 use Rattle.std.proofs.lemmas.Bool.{cases_eq}
 use Rattle.boxes.specs.Boxes.{Open, Fits, Bit}
 use Rattle.sheets.specs.Tables.{row_at}
-use Rattle.bar.specs.Counted.{Counts, product}
+use Rattle.bar.specs.Counted.{HowMany, product}
 use Rattle.bar.specs.Tally.{Measures, Bears, Tallied, Fewer, Room, Marks}
 use Rattle.bar.proofs.Bitcount.{counts_ones}
 use Rattle.bar.proofs.Counting.{counts_none, counts_yes, counts_no, counts_same}
@@ -30,14 +30,14 @@ module _ (entries rest row next : List ℕ) (r : ℕ) (here : rest ≡ drop (9 *
 pub record Counting (b scope entries : List ℕ) (r : ℕ) (rest : List ℕ) (counts : List (List ℕ)) : Type 0 where
   pub here : rest ≡ drop (9 * r) entries
   pub whole : 9 * r ≤ length entries
-  pub each : (p o : ℕ) → p < length scope → o < 32 → Counts (Bears b scope entries p o) r (get_or (get_or counts p []) o 0)
+  pub each : (p o : ℕ) → p < length scope → o < 32 → HowMany (Bears b scope entries p o) r (get_or (get_or counts p []) o 0)
 
 module _ (b scope entries : List ℕ) (short : length scope ≤ 8) where
   pub counting_none : Counting b scope entries 0 entries (replicate 8 (replicate 32 0))
   counting_none = record {
     here = refl;
     whole = omega arith;
-    each = λ p o hp ho. subst (λ (c : ℕ). Counts (Bears b scope entries p o) 0 c)
+    each = λ p o hp ho. subst (λ (c : ℕ). HowMany (Bears b scope entries p o) 0 c)
         (sym (ap (λ l. get_or l o 0) (get_or-replicate 8 p (replicate 32 0) [] (omega arith)) ∙ get_or-replicate 32 o 0 0 ho)) (counts_none (Bears b scope entries p o));
   }
 
@@ -58,11 +58,11 @@ module _ (b scope entries : List ℕ) (short : length scope ≤ 8) where
       here = row_next entries rest row next r was.here cut nine;
       whole = omega (arith, row_whole entries rest row next r was.here cut nine);
       each = λ p o hp ho. ⊎_elim
-          (λ f. subst (λ (c : ℕ). Counts (Bears b scope entries p o) (r + 1) c)
+          (λ f. subst (λ (c : ℕ). HowMany (Bears b scope entries p o) (r + 1) c)
           (sym (subst (λ (u : ℕ). get_or (get_or ys p []) u 0 ≡ get_or (get_or xs p []) u 0 + 1) f (t.hit p (omega (arith, good.long)))))
           (counts_yes (Bears b scope entries p o) r (get_or (get_or xs p []) o 0) (was.each p o hp ho)
           (record { fits = subst (Fits b scope) (same_row was.here) good; has = ap (λ l. get_or l p 0) (sym (same_row was.here)) ∙ f })))
-          (λ ne. subst (λ (c : ℕ). Counts (Bears b scope entries p o) (r + 1) c) (sym (t.miss p o (λ _. ne)))
+          (λ ne. subst (λ (c : ℕ). HowMany (Bears b scope entries p o) (r + 1) c) (sym (t.miss p o (λ _. ne)))
           (counts_no (Bears b scope entries p o) r (get_or (get_or xs p []) o 0) (was.each p o hp ho) (λ k. ne (ap (λ l. get_or l p 0) (same_row was.here) ∙ k.has))))
           (cases_eq (get_or options p 0) o);
     }
@@ -91,15 +91,15 @@ module _ (options : List ℕ) (n : ℕ) (xs ys : List (List ℕ)) (was : Tallied
       }
 
 -- the open options of a slot are the bits of its cell
-open_count : (b : List ℕ) (s n : ℕ) → Counts (Bit (get_or b s 0)) 32 n → Counts (Open b s) 32 n
+open_count : (b : List ℕ) (s n : ℕ) → HowMany (Bit (get_or b s 0)) 32 n → HowMany (Open b s) 32 n
 unfolding Open Bit
 open_count b s n k = counts_same (Bit (get_or b s 0)) (Open b s) 32 n (λ o h q. (h, q)) (λ o h q. q.1) k
 
 -- the size of a position that is there, by the cell of its slot
 pub measured : (b scope : List ℕ) (p slot : ℕ) → p < length scope → slot ≡ get_or scope p 0 → get_or b slot 0 < 2 ^ 32 → Measures b scope p (ones (get_or b slot 0))
 measured b scope p slot h e low =
-    let k : Counts (Open b (get_or scope p 0)) 32 (ones (get_or b slot 0)) =
-    subst (λ (s : ℕ). Counts (Open b s) 32 (ones (get_or b slot 0))) e (open_count b slot _ (counts_ones (get_or b slot 0) 32 low)) in
+    let k : HowMany (Open b (get_or scope p 0)) 32 (ones (get_or b slot 0)) =
+    subst (λ (s : ℕ). HowMany (Open b s) 32 (ones (get_or b slot 0))) e (open_count b slot _ (counts_ones (get_or b slot 0) 32 low)) in
     record { counts = λ l. k; past = λ l. absurd (omega arith); few = k.few }
 
 -- the bits of a mask, one by one

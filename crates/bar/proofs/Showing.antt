@@ -20,7 +20,7 @@ use Rattle.sheets.proofs.Chosen.{taken_of, taken_sheets}
 use Rattle.sheets.proofs.Narrowing.{Masks, BoxShown, shown_by_masks}
 use Rattle.sheets.proofs.Tabled.{at, none_at, sheets_long}
 use Rattle.binder.specs.declared.marks.Marks.{Marks}
-use Rattle.bar.specs.declared.bars.Bar.{Bar}
+use Rattle.bar.specs.declared.Bar.{Bar}
 use Rattle.bar.specs.Tally.{Spared, Backs}
 use Rattle.bar.specs.Bars.{keeps, barring}
 use Rattle.bar.specs.Proper.{GoodBar, good_at, scope_there, is_true}

@@ -5,7 +5,7 @@ use Rattle.std.proofs.lemmas.Bool.{cases_order, cases_lt}
 use Rattle.boxes.specs.Boxes.{Open, Fits}
 use Rattle.boxes.proofs.Bits.{open_low}
 use Rattle.sheets.specs.Tables.{row_at}
-use Rattle.bar.specs.Counted.{In, NoDup, Counts, product}
+use Rattle.bar.specs.Counted.{In, NoDup, HowMany, product}
 use Rattle.bar.specs.Tally.{Measures, Bears, Room, Marks, RowsApart, Spared, Backs}
 use Rattle.bar.proofs.Products.{product_front}
 use Rattle.bar.proofs.Points.{Chosen, Apiece, in_map, of_map, once_map, pigeonhole}
@@ -16,9 +16,9 @@ module _ (b : List ℕ) where
   Sized [] [] = Unit {0}
   Sized [] (n ∷ ns) = ⊥
   Sized (s ∷ ss) [] = ⊥
-  Sized (s ∷ ss) (n ∷ ns) = Counts (Open b s) 32 n × Sized ss ns
+  Sized (s ∷ ss) (n ∷ ns) = HowMany (Open b s) 32 n × Sized ss ns
 
-  sized_from : (ss ns : List ℕ) → length ss ≡ length ns → ((q : ℕ) → q < length ss → Counts (Open b (get_or ss q 0)) 32 (get_or ns q 0)) → Sized ss ns
+  sized_from : (ss ns : List ℕ) → length ss ≡ length ns → ((q : ℕ) → q < length ss → HowMany (Open b (get_or ss q 0)) 32 (get_or ns q 0)) → Sized ss ns
   sized_from [] [] e f = tt
   sized_from [] (n ∷ ns) e f = omega arith
   sized_from (s ∷ ss) [] e f = omega arith
@@ -86,7 +86,7 @@ module _ (b : List ℕ) where
 module _ (b scope entries ns : List ℕ) (total : ℕ)
     (apart : RowsApart entries (length scope) total) (z : Sized b scope ns)
     (p o c : ℕ) (hp : p < length scope) (here : Open b (get_or scope p 0) o)
-    (counts : Counts (Bears b scope entries p o) total c) where
+    (counts : HowMany (Bears b scope entries p o) total c) where
   bearing : List (List ℕ)
   bearing = map (row_at entries (length scope)) counts.list
 
@@ -144,14 +144,14 @@ module _ (b scope entries ns : List ℕ) (total : ℕ)
 -- the whole
 pub backs : (b scope entries sizes : List ℕ) (counts : List (List ℕ)) (masks : List ℕ) (total : ℕ) → length scope ≤ 8 → length sizes ≡ 8 → RowsApart entries (length scope) total
     → ((p : ℕ) → p < 8 → Measures b scope p (get_or sizes p 0))
-    → ((p o : ℕ) → p < length scope → o < 32 → Counts (Bears b scope entries p o) total (get_or (get_or counts p []) o 0))
+    → ((p o : ℕ) → p < length scope → o < 32 → HowMany (Bears b scope entries p o) total (get_or (get_or counts p []) o 0))
     → ((p : ℕ) → p < 8 → Marks (Room (get_or counts p []) sizes p) 32 (get_or masks p 0))
     → Backs b scope entries total masks
 backs b scope entries sizes counts masks total short eight apart each tallied marked =
     let ns = take (length scope) sizes in
     let long : length scope ≡ length (take (length scope) sizes) = simp length-take (omega arith) in
     let z : Sized b scope (take (length scope) sizes) = sized_from b scope (take (length scope) sizes) long
-    (λ q h. subst (λ (n : ℕ). Counts (Open b (get_or scope q 0)) 32 n) (sym (get_or-take (length scope) sizes q 0 h)) ((each q (omega arith)).counts h)) in
+    (λ q h. subst (λ (n : ℕ). HowMany (Open b (get_or scope q 0)) 32 n) (sym (get_or-take (length scope) sizes q 0 h)) ((each q (omega arith)).counts h)) in
     let front : (p : ℕ) → p < length scope → product (set (take (length scope) sizes) p 1) ≡ product (set sizes p 1) =
     λ p h. product_front sizes (length scope) p h (λ q l k. (each q (omega arith)).past l) in
     record {

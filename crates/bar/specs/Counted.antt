@@ -13,7 +13,7 @@ module _ {A : Type 0} where
   NoDup (x ∷ xs) = (In x xs → ⊥) × NoDup xs
 
 -- exactly c of the numbers below n meet P, and these are they
-pub record Counts (P : ℕ → Type 0) (n c : ℕ) : Type 0 where
+pub record HowMany (P : ℕ → Type 0) (n c : ℕ) : Type 0 where
   pub list : List ℕ
   pub long : length list ≡ c
   pub once : NoDup list

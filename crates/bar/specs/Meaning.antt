@@ -1,8 +1,11 @@
--- What a bar binder means, by its sheets and its marks. Assumes nothing.
-use Rattle.binder.specs.Meaning.{Binding}
-use Rattle.binder.specs.declared.marks.Marks.{Marks}
-use Rattle.sheets.specs.declared.table.Sheets.{Sheets}
+-- What a bar binder means, and that it is a proper binder. Assumes nothing.
+use Rattle.binder.specs.Meaning.{Binding, Proper}
+use Rattle.bar.specs.declared.Bar.{Bar}
 use Rattle.bar.specs.Bars.{barring}
+use Rattle.bar.specs.Proper.{barring_proper}
 
-abbrev pub meaning_of : Sheets → Marks → Binding
-meaning_of sheets marks = barring sheets.views sheets.count marks.count
+abbrev pub meaning_of : Bar → Binding
+meaning_of x = barring x.sheets.views x.sheets.count x.marks.count
+
+pub proper_of : (x : Bar) → Proper (meaning_of x)
+proper_of x = barring_proper x.sheets.make x.sheets.views x.sheets.count x.marks.count x.bars x.sheets.taken x.sheets.few x.sheets.long x.marks.few

@@ -128,7 +128,6 @@ barring_proper m views n marks bars taken few long low =
       low = low;
       some = scopes (λ x. 1 ≤ length x) views n marks (λ s l. (good s l).scope.some);
       short = scopes (λ x. length x ≤ 8) views n marks (λ s l. (good s l).scope.short);
-      slots = λ s p l. scopes (λ x. p < length x → slice_index x p < 48) views n marks (λ s l. (good s l).scope.covered p) s l;
       apart = λ s p q l. scopes (λ x. p < q → q < length x → slice_index x p ≢ slice_index x q) views n marks (λ s l. (good s l).scope.apart p q) s l;
       listed = kept_listed views n marks;
       listed_then = λ i. kept_listed views n marks;

@@ -2,11 +2,11 @@
 use Rattle.std.specs.Prelude.{◌≡◌, ℕ, ◌+◌, ◌<◌, ◌≤◌, List, [], length, ◌≢◌, slice_index, slice_index_or, slice_set}
 use Rattle.boxes.specs.Boxes.{Open, Fits, Bit}
 use Rattle.sheets.specs.Tables.{row_at}
-use Rattle.bar.specs.Counted.{Counts, product}
+use Rattle.bar.specs.Counted.{HowMany, product}
 
 -- n is how many options are open at position p of the scope, and past its last position it is 1
 pub record Measures (b scope : List ℕ) (p n : ℕ) : Type 0 where
-  pub counts : p < length scope → Counts (Open b (slice_index scope p)) 32 n
+  pub counts : p < length scope → HowMany (Open b (slice_index scope p)) 32 n
   pub past : length scope ≤ p → n ≡ 1
   pub few : n ≤ 32
 

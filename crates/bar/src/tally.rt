@@ -2,7 +2,7 @@
 // fits the box and is not among the rows. Rows are all different, so such a list is left exactly where
 // fewer fitting rows have the option than there are fitting lists that do.
 ghost use Rattle.std.specs.Prelude.{◌≡◌, ℕ, ◌/◌, ◌<◌, ◌≤◌, [], length, slice_index, slice_index_or, slice_set};
-ghost use Rattle.bar.specs.Counted.{Counts, product};
+ghost use Rattle.bar.specs.Counted.{HowMany, product};
 ghost use Rattle.bar.specs.Tally.{Measures, Bears, Tallied, Fewer, Room, Marks, RowsApart, Backs};
 
 use boxes::OptionBox;
@@ -84,7 +84,7 @@ impl Tally {
     fn of(sheet: &Sheet, slate: &OptionBox) -> Tally
         requires { length sheet.now.entries.now / 9 ≤ 65536 }
         ensures { (p o : ℕ) → p < length sheet.now.scope.slots.now → o < 32
-            → Counts (Bears slate.now.cells sheet.now.scope.slots.now sheet.now.entries.now p o) (length sheet.now.entries.now / 9) (slice_index (slice_index_or result.counts p []) o) }
+            → HowMany (Bears slate.now.cells sheet.now.scope.slots.now sheet.now.entries.now p o) (length sheet.now.entries.now / 9) (slice_index (slice_index_or result.counts p []) o) }
     {
         let mut tally = Tally {
             counts: [[0; 32]; 8],

@@ -5,7 +5,7 @@ use catalogue::make::Make;
 use planner::state::Planner;
 use planner::step::Step;
 use samples::random::Random;
-use sheets::table::Sheets;
+use sheets::table::SheetTable;
 use sheets::taking::sheets_of;
 
 // How many answers there were, and a number that depends on each.
@@ -73,7 +73,7 @@ pub fn screen<B: Binder + Drop>(mut planner: Planner<B>, count: u32) -> Tally {
 }
 
 // Adds up the bytes of all rows, or of all weights, of the sheets of one make.
-fn added(sheets: &Sheets) -> u64 {
+fn added(sheets: &SheetTable) -> u64 {
     let mut sum: u64 = 0;
     for view in &sheets.views {
         for byte in view.entries {

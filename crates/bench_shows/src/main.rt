@@ -2,7 +2,7 @@
 // box full, then one option less, with a mark before and an undo behind.
 #![tactic(auto)]
 
-use bar::bars::Bar;
+use bar::Bar;
 use binder::binders::Binder;
 use boxes::OptionBox;
 use catalogue::checked::Catalogue;

@@ -11,7 +11,7 @@ mod problem;
 mod reckon;
 
 use anyhow::anyhow;
-use bar::bars::Bar;
+use bar::Bar;
 use binder::binders::Binder;
 use binder::join::Join;
 use catalogue::checked::Catalogue;

@@ -2,7 +2,7 @@
 use Rattle.std.proofs.Common.{◌≡◌, ℕ, ◌+◌, ◌-◌, ◌<◌, ◌≤◌, min, Bool, true, false, cond, T, ltb, List, length, get_or, sym, refl, ap, ◌∙◌, subst, ⊎_elim, arith}
 use Rattle.std.proofs.lemmas.Bool.{cases_lt, lt-ltb, le-ltb, cond-true, cond-false}
 use Rattle.boxes.specs.Boxes.{Open, Fits}
-use Rattle.binder.specs.Meaning.{Binding, Alike, SameSheets, Held, Shown, Noted, Undone, Cleared}
+use Rattle.binder.specs.Meaning.{Binding, SameLists, SameSheets, Held, Shown, Noted, Undone, Cleared}
 use Rattle.binder.specs.Joined.{glue, joined, glue_first, glue_second, Beside}
 
 cond_same : {X : Type 0} (t : Bool) (x x' y y' : X) → x ≡ x' → y ≡ y' → cond t x y ≡ cond t x' y'
@@ -12,7 +12,7 @@ cond_same false x x' y y' e f = f
 -- sheet s of m is sheet r of a
 pub record Like (a : Binding) (r : ℕ) (m : Binding) (s : ℕ) : Type 0 where
   pub scope : m.scope s ≡ a.scope r
-  pub kept : Alike (m.kept s) (a.kept r)
+  pub kept : SameLists (m.kept s) (a.kept r)
 
 pub like_first : (k : ℕ) (a b : Binding) (s : ℕ) → s < k → Like a s (glue k a b) s
 unfolding glue
@@ -30,12 +30,12 @@ like_second k a b s h = record {
 
 -- all but what sheet s keeps is the same
 pub record Rest (m n : Binding) (s : ℕ) : Type 0 where
-  pub others : (t : ℕ) → (t ≡ s → ⊥) → Alike (n.kept t) (m.kept t)
+  pub others : (t : ℕ) → (t ≡ s → ⊥) → SameLists (n.kept t) (m.kept t)
   pub sheets : SameSheets m n
   pub marks : n.marks ≡ m.marks
-  pub marked : (i t : ℕ) → Alike (n.marked i t) (m.marked i t)
+  pub marked : (i t : ℕ) → SameLists (n.marked i t) (m.marked i t)
 
-held_like : (a : Binding) (r : ℕ) (m : Binding) (s p o : ℕ) (x : List ℕ) → a.scope r ≡ m.scope s → Alike (a.kept r) (m.kept s) → Held a x r p o → Held m x s p o
+held_like : (a : Binding) (r : ℕ) (m : Binding) (s p o : ℕ) (x : List ℕ) → a.scope r ≡ m.scope s → SameLists (a.kept r) (m.kept s) → Held a x r p o → Held m x s p o
 held_like a r m s p o x e same held = record {
   list = held.list;
   keeps = subst T (same held.list) held.keeps;
@@ -72,11 +72,11 @@ module _ (k : ℕ) (a a' b b' : Binding) where
     scope = λ s. cond_same (ltb s k) (a'.scope s) (a.scope s) (b'.scope (s - k)) (b.scope (s - k)) (f.scope s) (g.scope (s - k));
   }
 
-  glue_kept : (s : ℕ) → Alike (a'.kept s) (a.kept s) → Alike (b'.kept (s - k)) (b.kept (s - k)) → Alike ((glue k a' b').kept s) ((glue k a b).kept s)
+  glue_kept : (s : ℕ) → SameLists (a'.kept s) (a.kept s) → SameLists (b'.kept (s - k)) (b.kept (s - k)) → SameLists ((glue k a' b').kept s) ((glue k a b).kept s)
   unfolding glue
   glue_kept s f g l = cond_same (ltb s k) (a'.kept s l) (a.kept s l) (b'.kept (s - k) l) (b.kept (s - k) l) (f l) (g l)
 
-  glue_marked : (i s : ℕ) → Alike (a'.marked i s) (a.marked i s) → Alike (b'.marked i (s - k)) (b.marked i (s - k)) → Alike ((glue k a' b').marked i s) ((glue k a b).marked i s)
+  glue_marked : (i s : ℕ) → SameLists (a'.marked i s) (a.marked i s) → SameLists (b'.marked i (s - k)) (b.marked i (s - k)) → SameLists ((glue k a' b').marked i s) ((glue k a b).marked i s)
   unfolding glue
   glue_marked i s f g l = cond_same (ltb s k) (a'.marked i s l) (a.marked i s l) (b'.marked i (s - k) l) (b.marked i (s - k) l) (f l) (g l)
 
@@ -113,8 +113,8 @@ joined_shown_first a a' b s x y h shown = subst (λ (k : ℕ). Shown (joined a b
       marked = λ i t. glue_marked a.count a a' b b i t (shown.marked i t) (λ l. refl);
     }) shown)
 
-others_second : (a b b' : Binding) (s : ℕ) → a.count ≤ s → ((t : ℕ) → (t ≡ s - a.count → ⊥) → Alike (b'.kept t) (b.kept t))
-    → (t : ℕ) → (t ≡ s → ⊥) → Alike ((joined a b').kept t) ((joined a b).kept t)
+others_second : (a b b' : Binding) (s : ℕ) → a.count ≤ s → ((t : ℕ) → (t ≡ s - a.count → ⊥) → SameLists (b'.kept t) (b.kept t))
+    → (t : ℕ) → (t ≡ s → ⊥) → SameLists ((joined a b').kept t) ((joined a b).kept t)
 others_second a b b' s h same t ne = ⊎_elim
     (λ lt l. (like_first a.count a b' t lt).kept l ∙ sym ((like_first a.count a b t lt).kept l))
     (λ ge. glue_kept a.count a a b b' t (λ l. refl) (same (t - a.count) (λ e. ne (omega arith)))) (cases_lt t a.count)

@@ -1,3 +1,5 @@
 pub mod Clearing
 pub mod Glued
+pub mod Numbers
 pub mod Paired
+pub mod Supported

@@ -1,7 +1,6 @@
 -- The pair, where its parts go together and where they do not. Assumes nothing.
 use Rattle.std.proofs.Common.{◌≡◌, ℕ, ◌+◌, ◌-◌, ◌<◌, ◌≤◌, min, Bool, true, false, cond, ◌&&◌, eqb, ltb, List, length, get_or, Ok, Err, Result, sym, refl, ap, ◌∙◌, subst, ⊎_elim, arith, MatchResult}
 use Rattle.std.proofs.lemmas.Bool.{and_parts, and_from, eqb-true, eq-eqb, cases_lt, lt-ltb, le-ltb, cond-true, cond-false}
-use Rattle.binder.specs.declared.refusal.Refusal.TheVariants.{NotThere}
 use Rattle.binder.specs.Meaning.{Binding, Proper, Shown, Noted, Undone, Cleared, arity_of, slot_at}
 use Rattle.binder.specs.Joined.{glue, joined, paired, glue_first, glue_second, Beside}
 use Rattle.binder.proofs.Glued.{joined_shown_first, joined_shown_second, glue_noted, glue_undone, joined_beside}
@@ -26,18 +25,12 @@ pub record Answers (a : Binding) (r : ℕ) (m : Binding) (s : ℕ) : Type 0 wher
   pub scope : a.scope r ≡ m.scope s
 
 pub same_arity : (a : Binding) (r : ℕ) (m : Binding) (s : ℕ) → Answers a r m s → arity_of a r ≡ arity_of m s
-same_arity a r m s h = ap (λ t. cond t (Ok (length (a.scope r))) (Err NotThere)) h.there ∙ ap (λ z. cond (ltb s m.count) (Ok (length z)) (Err NotThere)) h.scope
+same_arity a r m s h = ap (λ t. cond t (Ok (length (a.scope r))) (Err 31)) h.there ∙ ap (λ z. cond (ltb s m.count) (Ok (length z)) (Err 31)) h.scope
 
 pub same_slot : (a : Binding) (r : ℕ) (m : Binding) (s p : ℕ) → Answers a r m s → slot_at a r p ≡ slot_at m s p
 same_slot a r m s p h =
-    ap (λ t. cond t (cond (ltb p (length (a.scope r))) (Ok (get_or (a.scope r) p 0)) (Err NotThere)) (Err NotThere)) h.there
-    ∙ ap (λ z. cond (ltb s m.count) (cond (ltb p (length z)) (Ok (get_or z p 0)) (Err NotThere)) (Err NotThere)) h.scope
-
-pub no_arity : (m : Binding) (s : ℕ) → m.count ≤ s → arity_of m s ≡ Err NotThere
-no_arity m s h = cond-false (ltb s m.count) (Ok (length (m.scope s))) (Err NotThere) (le-ltb s m.count h)
-
-pub no_slot : (m : Binding) (s p : ℕ) → m.count ≤ s → slot_at m s p ≡ Err NotThere
-no_slot m s p h = cond-false (ltb s m.count) (cond (ltb p (length (m.scope s))) (Ok (get_or (m.scope s) p 0)) (Err NotThere)) (Err NotThere) (le-ltb s m.count h)
+    ap (λ t. cond t (cond (ltb p (length (a.scope r))) (Ok (get_or (a.scope r) p 0)) (Err 31)) (Err 31)) h.there
+    ∙ ap (λ z. cond (ltb s m.count) (cond (ltb p (length z)) (Ok (get_or z p 0)) (Err 31)) (Err 31)) h.scope
 
 -- a sheet of the first
 pub first_there : (t : Bool) (a b : Binding) (s : ℕ) → Proper a → s < a.count → s < (cond t (joined a b) a).count

@@ -2,7 +2,8 @@
 use Rattle.std.specs.Prelude.{◌≡◌, ℕ, ◌+◌, ◌-◌, ◌<◌, ◌≤◌, min, Bool, true, false, cond, ◌&&◌, T, List, length, ◌==◌, ◌≢◌, nat_lt, slice_index}
 use Rattle.std.proofs.Common.{sym, subst, ⊎_elim, arith}
 use Rattle.std.proofs.lemmas.Bool.{cases_lt, lt-ltb, le-ltb, cond-true, cond-false}
-use Rattle.binder.specs.Meaning.{Binding, Proper, Listed, Alike, kept_first}
+use Rattle.binder.specs.declared.join.Join.{Join}
+use Rattle.binder.specs.Meaning.{Binding, Proper, Listed, SameLists, kept_first}
 
 -- the first k sheets are those of a, the others those of b
 unfoldable pub glue : ℕ → Binding → Binding → Binding
@@ -21,14 +22,18 @@ joined a b = glue a.count a b
 abbrev pub paired : Bool → Binding → Binding → Binding
 paired t a b = cond (t && a.marks == b.marks) (joined a b) a
 
+-- what a join means, by what the two that it holds mean
+abbrev pub meaning_of : {A B : Type 0} → (A → Binding) → (B → Binding) → Join A B → Binding
+meaning_of f g j = paired j.both (f j.first) (g j.second)
+
 -- m has no marks, and the sheets of a and then those of b, up to number 1023; each keeps what it kept at the
 -- oldest of its marks, or keeps where it has none
 pub record Beside (a b m : Binding) : Type 0 where
   pub count : m.count ≡ min (a.count + b.count) 1024
   pub first_scope : (s : ℕ) → s < a.count → m.scope s ≡ a.scope s
-  pub first_kept : (s : ℕ) → s < a.count → Alike (m.kept s) (kept_first a s)
+  pub first_kept : (s : ℕ) → s < a.count → SameLists (m.kept s) (kept_first a s)
   pub second_scope : (s : ℕ) → m.scope (a.count + s) ≡ b.scope s
-  pub second_kept : (s : ℕ) → Alike (m.kept (a.count + s)) (kept_first b s)
+  pub second_kept : (s : ℕ) → SameLists (m.kept (a.count + s)) (kept_first b s)
   pub marks : m.marks ≡ 0
 
 pub glue_first : (k : ℕ) (a b : Binding) (s : ℕ) → s < k → (glue k a b).scope s ≡ a.scope s
@@ -60,7 +65,6 @@ joined_proper a b pa pb = record {
   low = pa.low;
   some = glue_scopes (λ x. 1 ≤ length x) a b pa.some pb.some;
   short = glue_scopes (λ x. length x ≤ 8) a b pa.short pb.short;
-  slots = λ s p h. glue_scopes (λ x. p < length x → slice_index x p < 48) a b (λ t. pa.slots t p) (λ t. pb.slots t p) s h;
   apart = λ s p q h. glue_scopes (λ x. p < q → q < length x → slice_index x p ≢ slice_index x q) a b
       (λ t. pa.apart t p q) (λ t. pb.apart t p q) s h;
   listed = λ s l. cond_listed (nat_lt s a.count) (a.kept s l) (b.kept (s - a.count) l)
@@ -75,3 +79,6 @@ cond_proper false m n pm pn = pn
 
 pub paired_proper : (t : Bool) (a b : Binding) → Proper a → Proper b → Proper (paired t a b)
 paired_proper t a b pa pb = cond_proper (t && a.marks == b.marks) (joined a b) a (joined_proper a b pa pb) pa
+
+pub proper_of : {A B : Type 0} (f : A → Binding) (g : B → Binding) → ((a : A) → Proper (f a)) → ((b : B) → Proper (g b)) → (j : Join A B) → Proper (meaning_of f g j)
+proper_of f g pf pg j = paired_proper j.both (f j.first) (g j.second) (pf j.first) (pg j.second)

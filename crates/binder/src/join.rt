@@ -1,11 +1,11 @@
 // Two binders side by side as one.
 ghost use Rattle.std.specs.Prelude.{◌≡◌, ◌+◌, ◌<◌, ◌≤◌, true, ◌&&◌, ◌==◌, MatchResult};
-ghost use Rattle.binder.specs.declared.refusal.Refusal.TheVariants.{NotThere};
-ghost use Rattle.binder.specs.Joined.{paired, paired_proper, Beside};
+ghost use Rattle.binder.specs.Refusals.{number_of};
+ghost use Rattle.binder.specs.Joined.{meaning_of, proper_of, Beside};
 
 use crate::binders::Binder;
 use crate::clear::undo_all;
-use crate::refusal::Refusal;
+use crate::refusal::BinderRefusal;
 use boxes::OptionBox;
 
 // The most sheets that a binder may have.
@@ -32,7 +32,7 @@ impl<A: Binder, B: Binder> Join<A, B> {
     // Undoes every mark of either, and joins them. The contract is over what the new join means, which the
     // impl below gives.
     pub fn new(a: A, b: B) -> Self
-        ensures { Beside (A.Binder.meaning a) (B.Binder.meaning b) (paired result.both (A.Binder.meaning result.first) (B.Binder.meaning result.second)) }
+        ensures { Beside (A.Binder.meaning a) (B.Binder.meaning b) (meaning_of A.Binder.meaning B.Binder.meaning result) }
     {
         let mut first = a;
         let mut second = b;
@@ -53,22 +53,22 @@ impl<A: Binder, B: Binder> Join<A, B> {
     }
 
     // Which sheet of the second a sheet of the join is, where it is none of the first.
-    fn in_second(&self, sheet: usize) -> Result<usize, Refusal>
+    fn in_second(&self, sheet: usize) -> Result<usize, BinderRefusal>
         requires { (A.Binder.meaning self.now.first).count ≤ sheet }
         ensures { MatchResult result (λ place. ((self.now.both && (A.Binder.meaning self.now.first).marks == (B.Binder.meaning self.now.second).marks) ≡ true) × (sheet < 1024) × (sheet ≡ (A.Binder.meaning self.now.first).count + place))
-            (λ e. (e ≡ NotThere) × ((paired self.now.both (A.Binder.meaning self.now.first) (B.Binder.meaning self.now.second)).count ≤ sheet)) }
+            (λ e. (number_of e ≡ 31) × ((meaning_of A.Binder.meaning B.Binder.meaning self.now).count ≤ sheet)) }
     {
         if sheet >= SHEETS || !self.level() {
-            return Err(Refusal::NotThere);
+            return Err(BinderRefusal::NotThere);
         }
         Ok(sheet - self.first.sheets())
     }
 }
 
 impl<A: Binder, B: Binder> Binder for Join<A, B> {
-    ghost meaning = { λ j. paired j.both (A.Binder.meaning j.first) (B.Binder.meaning j.second) };
+    ghost meaning = { λ j. meaning_of A.Binder.meaning B.Binder.meaning j };
 
-    ghost proper = { λ j. paired_proper j.both (A.Binder.meaning j.first) (B.Binder.meaning j.second) (A.Binder.proper j.first) (B.Binder.proper j.second) };
+    ghost proper = { λ j. proper_of A.Binder.meaning B.Binder.meaning A.Binder.proper B.Binder.proper j };
 
     fn sheets(&self) -> usize {
         let n = self.first.sheets();
@@ -85,7 +85,7 @@ impl<A: Binder, B: Binder> Binder for Join<A, B> {
 
     // The three calls below ask the first or the second. One function for them would be no plainer: a closure that asks
     // either would have to take two types.
-    fn arity(&self, sheet: usize) -> Result<usize, Refusal> {
+    fn arity(&self, sheet: usize) -> Result<usize, BinderRefusal> {
         if sheet < self.first.sheets() {
             return self.first.arity(sheet);
         }
@@ -93,7 +93,7 @@ impl<A: Binder, B: Binder> Binder for Join<A, B> {
         self.second.arity(place)
     }
 
-    fn slot_at(&self, sheet: usize, position: usize) -> Result<usize, Refusal> {
+    fn slot_at(&self, sheet: usize, position: usize) -> Result<usize, BinderRefusal> {
         if sheet < self.first.sheets() {
             return self.first.slot_at(sheet, position);
         }
@@ -101,7 +101,7 @@ impl<A: Binder, B: Binder> Binder for Join<A, B> {
         self.second.slot_at(place, position)
     }
 
-    fn show(&mut self, sheet: usize, slate: &mut OptionBox) -> Result<(), Refusal> {
+    fn show(&mut self, sheet: usize, slate: &mut OptionBox) -> Result<(), BinderRefusal> {
         if sheet < self.first.sheets() {
             return self.first.show(sheet, slate);
         }
@@ -110,7 +110,7 @@ impl<A: Binder, B: Binder> Binder for Join<A, B> {
     }
 
     // Where the first alone counts before a call of these two, it alone counts after.
-    fn mark(&mut self) -> Result<(), Refusal> {
+    fn mark(&mut self) -> Result<(), BinderRefusal> {
         let level = self.level();
         self.first.mark()?;
         if level {
@@ -120,7 +120,7 @@ impl<A: Binder, B: Binder> Binder for Join<A, B> {
         Ok(())
     }
 
-    fn undo(&mut self) -> Result<(), Refusal> {
+    fn undo(&mut self) -> Result<(), BinderRefusal> {
         let level = self.level();
         self.first.undo()?;
         if level {

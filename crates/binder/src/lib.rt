@@ -4,5 +4,6 @@
 pub mod binders;
 pub mod clear;
 pub mod join;
+pub mod laws;
 pub mod marks;
 pub mod refusal;

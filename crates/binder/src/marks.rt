@@ -1,8 +1,8 @@
 // How many marks stand on a binder.
 ghost use Rattle.std.specs.Prelude.{◌≡◌, ◌+◌, ◌<◌, ◌≤◌, MatchResult};
-ghost use Rattle.binder.specs.declared.refusal.Refusal.TheVariants.{TooManyMarks, NoMark};
+ghost use Rattle.binder.specs.Refusals.{number_of};
 
-use crate::refusal::Refusal;
+use crate::refusal::BinderRefusal;
 
 // The most marks that may stand.
 pub const MARKS: usize = 72;
@@ -23,24 +23,24 @@ impl Marks {
     }
 
     // One mark more, unless as many stand as may.
-    pub fn add(&mut self) -> Result<(), Refusal>
+    pub fn add(&mut self) -> Result<(), BinderRefusal>
         ensures { MatchResult result (λ _. (self.old.count < 72) × (self.new.count ≡ self.old.count + 1))
-            (λ e. (e ≡ TooManyMarks) × (72 ≤ self.old.count) × (self.new ≡ self.old)) }
+            (λ e. (number_of e ≡ 32) × (72 ≤ self.old.count) × (self.new ≡ self.old)) }
     {
         if self.count >= MARKS {
-            return Err(Refusal::TooManyMarks);
+            return Err(BinderRefusal::TooManyMarks);
         }
         self.count += 1;
         Ok(())
     }
 
     // One mark fewer, if any stands.
-    pub fn drop_newest(&mut self) -> Result<(), Refusal>
+    pub fn drop_newest(&mut self) -> Result<(), BinderRefusal>
         ensures { MatchResult result (λ _. self.old.count ≡ self.new.count + 1)
-            (λ e. (e ≡ NoMark) × (self.old.count ≡ 0) × (self.new ≡ self.old)) }
+            (λ e. (number_of e ≡ 33) × (self.old.count ≡ 0) × (self.new ≡ self.old)) }
     {
         if self.count == 0 {
-            return Err(Refusal::NoMark);
+            return Err(BinderRefusal::NoMark);
         }
         self.count -= 1;
         Ok(())

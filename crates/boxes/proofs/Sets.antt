@@ -6,9 +6,16 @@ use Rattle.std.proofs.lemmas.Bool.{cases_eq}
 use Rattle.std.proofs.lemmas.Bool.Decides.{Decides-eqb}
 use Rattle.subject.proofs.Bits as Number
 use Rattle.boxes.specs.Boxes.{Bit}
-use Rattle.boxes.specs.Slots.{Lone, Added, Apart, Changed}
+use Rattle.boxes.specs.Slots.{EverySlot, Lone, Added, Disjoint, Changed}
 use Rattle.boxes.proofs.Bits.{bit}
 use Rattle.boxes.proofs.Counting.{differ_there}
+
+pub whole : EverySlot 281474976710655
+unfolding Bit
+whole = record {
+  only = λ t b. Number.small_bit 48 281474976710655 t (omega arith) b;
+  here = λ t h. Number.ones_bit 48 t h;
+}
 
 pub lone : (s : ℕ) → s < 48 → Lone ((1 * 2 ^ s) % 18446744073709551616) s
 unfolding Bit
@@ -33,8 +40,8 @@ added set s one l = record {
   here = λ h. let k : bit one s ≡ 1 = l.here h in let x : bit (bit_or set one) s ≡ 1 = omega (arith, bit_at_or set one s, k, bit_at-lt set s) in x;
 }
 
-pub apart : (a b : ℕ) → Decides (nat_eq (bit_and a b) 0) (Apart a b)
-unfolding Bit Apart
+pub apart : (a b : ℕ) → Decides (nat_eq (bit_and a b) 0) (Disjoint a b)
+unfolding Bit Disjoint
 apart a b = (
   λ t u x y.
       let z : bit_and a b ≡ 0 = (Decides-eqb (bit_and a b) 0).0 t in

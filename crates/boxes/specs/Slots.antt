@@ -2,6 +2,11 @@
 use Rattle.std.specs.Prelude.{◌≡◌, ℕ, ◌<◌, ◌⊎◌, List, slice_index}
 use Rattle.boxes.specs.Boxes.{Bit, Differ}
 
+-- the set of every slot that a box covers, and of no other
+pub record EverySlot (set : ℕ) : Type 0 where
+  pub only : (t : ℕ) → Bit set t → t < 48
+  pub here : (t : ℕ) → t < 48 → Bit set t
+
 -- the set of slot s alone, if a box covers it
 pub record Lone (set s : ℕ) : Type 0 where
   pub only : (t : ℕ) → Bit set t → (t ≡ s) × (t < 48)
@@ -14,8 +19,8 @@ pub record Added (set new s : ℕ) : Type 0 where
   pub here : s < 48 → Bit new s
 
 -- no slot is in both sets
-unfoldable pub Apart : ℕ → ℕ → Type 0
-Apart a b = (t : ℕ) → Bit a t → Bit b t → ⊥
+unfoldable pub Disjoint : ℕ → ℕ → Type 0
+Disjoint a b = (t : ℕ) → Bit a t → Bit b t → ⊥
 
 -- the set has the slots below n of which some option is open in one of two boxes and not in the other
 pub record Changed (b c : List ℕ) (n set : ℕ) : Type 0 where

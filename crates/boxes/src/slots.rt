@@ -1,11 +1,16 @@
 // Sets of slots as numbers: slot s is in a set where bit s of it is one.
 ghost use Rattle.std.specs.Prelude.{◌≡◌, length, Decides};
-ghost use Rattle.boxes.specs.Slots.{Lone, Added, Apart, Changed};
+ghost use Rattle.boxes.specs.Slots.{EverySlot, Lone, Added, Disjoint, Changed};
 
 use crate::{OptionBox, SLOTS};
 
-// Every slot is in it.
-pub const ALL_SLOTS: u64 = u64::MAX;
+// The set of every slot that a box covers.
+#[tactic(auto, using(crate::proofs::Sets::whole))]
+pub fn all_slots() -> u64
+    ensures { EverySlot result }
+{
+    (1 << SLOTS) - 1
+}
 
 // The set of one slot; it is empty where a box covers no such slot.
 #[tactic(auto, using(crate::proofs::Sets::lone, crate::proofs::Sets::lone_none))]
@@ -26,7 +31,7 @@ pub fn with_slot(set: u64, slot: usize) -> u64
 // Whether two sets have no slot in common.
 #[tactic(auto, using(crate::proofs::Sets::apart))]
 pub fn apart(set: u64, other: u64) -> bool
-    ensures { Decides result (Apart set other) }
+    ensures { Decides result (Disjoint set other) }
 {
     set & other == 0
 }

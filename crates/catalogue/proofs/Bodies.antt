@@ -28,8 +28,8 @@ octets_cons x xs h o zero = h
 octets_cons x xs h o (suc i) = o i
 
 -- A signed number that was read is written as the bytes that it was read from.
-two_back : (a b : ℕ) → a < 256 → b < 256 → two_bytes (to_z w16 (a + b * 256)) ≡ a ∷ b ∷ []
-two_back a b p q =
+two_written : (a b : ℕ) → a < 256 → b < 256 → two_bytes (to_z w16 (a + b * 256)) ≡ a ∷ b ∷ []
+two_written a b p q =
     let n : of_z w16 (to_z w16 (a + b * 256)) ≡ a + b * 256 = of_z-to_z w16 (a + b * 256) (omega arith) in
     let x : of_z w16 (to_z w16 (a + b * 256)) % 256 ≡ a = ap (λ m. m % 256) n ∙ omega arith in
     let y : of_z w16 (to_z w16 (a + b * 256)) / 256 ≡ b = ap (λ m. m / 256) n ∙ omega arith in
@@ -38,8 +38,8 @@ two_back a b p q =
 four_fits : (a b c d : ℕ) → a < 256 → b < 256 → c < 256 → d < 256 → a + b * 256 + c * 65536 + d * 16777216 < 2 ^ 32
 four_fits a b c d p q r s = omega arith
 
-four_back : (a b c d : ℕ) → a < 256 → b < 256 → c < 256 → d < 256 → four_bytes (to_z w32 (a + b * 256 + c * 65536 + d * 16777216)) ≡ a ∷ b ∷ c ∷ d ∷ []
-four_back a b c d p q r s =
+four_written : (a b c d : ℕ) → a < 256 → b < 256 → c < 256 → d < 256 → four_bytes (to_z w32 (a + b * 256 + c * 65536 + d * 16777216)) ≡ a ∷ b ∷ c ∷ d ∷ []
+four_written a b c d p q r s =
     let m = a + b * 256 + c * 65536 + d * 16777216 in
     let n = of_z w32 (to_z w32 m) in
     let is : n ≡ m = of_z-to_z w32 m (four_fits a b c d p q r s) in
@@ -63,9 +63,9 @@ by_four P f (v ∷ w ∷ x ∷ []) e = absurd (omega arith)
 by_four P f (v ∷ w ∷ x ∷ y ∷ []) e = f v w x y
 by_four P f (v ∷ w ∷ x ∷ y ∷ z ∷ zs) e = absurd (omega arith)
 
-cap_back : (b : List ℕ) → length b ≡ 4 → Octets b → four_bytes (signed_four b) ≡ b
-cap_back b long o =
-    by_four (λ l. Octets l → four_bytes (signed_four l) ≡ l) (λ v w x y p. four_back v w x y (p 0) (p 1) (p 2) (p 3)) b long o
+cap_written : (b : List ℕ) → length b ≡ 4 → Octets b → four_bytes (signed_four b) ≡ b
+cap_written b long o =
+    by_four (λ l. Octets l → four_bytes (signed_four l) ≡ l) (λ v w x y p. four_written v w x y (p 0) (p 1) (p 2) (p 3)) b long o
 
 -- the cap of a header fits, whatever its bytes are
 pub cap_fits : (m : Make) (b : List ℕ) → Octets b → SFits w32 (cap_of m b)
@@ -76,9 +76,9 @@ cap_fits Load b o =
     signed_fits _ (four_fits (get_or (drop 9 b) 0 0) (get_or (drop 9 b) 1 0) (get_or (drop 9 b) 2 0) (get_or (drop 9 b) 3 0) (p 0) (p 1) (p 2) (p 3))
 
 -- A weight's body is written back.
-pub weight_back : (b : List ℕ) → length b ≡ 4 → Octets b → weight_bytes (weight_of b) ≡ 6 ∷ b
-weight_back b long o =
-    by_four (λ l. Octets l → weight_bytes (weight_of l) ≡ 6 ∷ l) (λ v w x y p. ap (λ l. 6 ∷ v ∷ w ∷ l) (two_back x y (p 2) (p 3))) b long o
+pub weight_written : (b : List ℕ) → length b ≡ 4 → Octets b → weight_bytes (weight_of b) ≡ 6 ∷ b
+weight_written b long o =
+    by_four (λ l. Octets l → weight_bytes (weight_of l) ≡ 6 ∷ l) (λ v w x y p. ap (λ l. 6 ∷ v ∷ w ∷ l) (two_written x y (p 2) (p 3))) b long o
 
 -- what a weight is of stands in its first two bytes
 pub place_back : (b : List ℕ) → length b ≡ 4 → take 2 b ≡ place (weight_of b)
@@ -106,8 +106,8 @@ fill_rest os [] xs e = e
 fill_rest os (s ∷ ss) [] e = refl
 fill_rest os (s ∷ ss) (x ∷ xs) e = fill_rest os ss xs (and_parts _ _ e).1
 
-pub row_back : (os ss b : List ℕ) → length b ≡ 8 → length ss ≤ 8 → well_filled os ss b ≡ true → row_bytes (take (length ss) b) ≡ 5 ∷ b
-row_back os ss b eight few e = ap (λ l. 5 ∷ l) (padded_front (length ss) b eight few (fill_rest os ss b e))
+pub row_written : (os ss b : List ℕ) → length b ≡ 8 → length ss ≤ 8 → well_filled os ss b ≡ true → row_bytes (take (length ss) b) ≡ 5 ∷ b
+row_written os ss b eight few e = ap (λ l. 5 ∷ l) (padded_front (length ss) b eight few (fill_rest os ss b e))
 
 -- what the size of a header's scope is
 pub record Sizes (b : List ℕ) : Type 0 where
@@ -125,14 +125,14 @@ sizes b nine e =
     record { low = leb-true 1 k q.0; high = high; rest = p.1; long = length-take-le k (drop 1 b) (omega (arith, length-drop 1 b)) }
 
 -- the cap's bytes stand behind the scope
-cap_of_lem : (m : Make) (b : List ℕ) → length b + 1 ≡ header_size m → Octets b → cap_bytes m (cap_of m b) ≡ drop 9 b
-cap_of_lem Fit b long o = sym (drop_all 9 b (omega arith))
-cap_of_lem Bar b long o = sym (drop_all 9 b (omega arith))
-cap_of_lem Load b long o = cap_back (drop 9 b) (omega (arith, length-drop 9 b)) (octets_drop 9 b o)
+cap_behind : (m : Make) (b : List ℕ) → length b + 1 ≡ header_size m → Octets b → cap_bytes m (cap_of m b) ≡ drop 9 b
+cap_behind Fit b long o = sym (drop_all 9 b (omega arith))
+cap_behind Bar b long o = sym (drop_all 9 b (omega arith))
+cap_behind Load b long o = cap_written (drop 9 b) (omega (arith, length-drop 9 b)) (octets_drop 9 b o)
 
 -- the eight bytes of a header's scope
-scope_back : (b : List ℕ) → 9 ≤ length b → well_sized b ≡ true → padded (scope_of b) ≡ take 8 (drop 1 b)
-scope_back b nine e =
+scope_written : (b : List ℕ) → 9 ≤ length b → well_sized b ≡ true → padded (scope_of b) ≡ take 8 (drop 1 b)
+scope_written b nine e =
     let k = get_or b 0 0 in
     let z = sizes b nine e in
     let xs = take 8 (drop 1 b) in
@@ -149,8 +149,8 @@ header_long Bar n e = omega arith
 header_long Load n e = omega arith
 
 -- A header's body is written back, of any make.
-pub header_back : (m : Make) (b : List ℕ) → length b + 1 ≡ header_size m → Octets b → well_sized b ≡ true → head_bytes (fresh m b) ≡ b
-header_back m b long o e =
+pub header_written : (m : Make) (b : List ℕ) → length b + 1 ≡ header_size m → Octets b → well_sized b ≡ true → head_bytes (fresh m b) ≡ b
+header_written m b long o e =
     let nine = header_long m (length b) long in
     let z = sizes b nine e in
-    ap (λ n. n ∷ padded (scope_of b) ++ cap_bytes m (cap_of m b)) z.long ∙ ap (λ l. get_or b 0 0 ∷ l ++ cap_bytes m (cap_of m b)) (scope_back b nine e) ∙ ap (λ l. get_or b 0 0 ∷ take 8 (drop 1 b) ++ l) (cap_of_lem m b long o ∙ sym (drop-drop 8 1 b)) ∙ ap (λ l. get_or b 0 0 ∷ l) (take-append-drop 8 (drop 1 b)) ∙ sym (drop_more b 0 0 (omega arith))
+    ap (λ n. n ∷ padded (scope_of b) ++ cap_bytes m (cap_of m b)) z.long ∙ ap (λ l. get_or b 0 0 ∷ l ++ cap_bytes m (cap_of m b)) (scope_written b nine e) ∙ ap (λ l. get_or b 0 0 ∷ take 8 (drop 1 b) ++ l) (cap_behind m b long o ∙ sym (drop-drop 8 1 b)) ∙ ap (λ l. get_or b 0 0 ∷ l) (take-append-drop 8 (drop 1 b)) ∙ sym (drop_more b 0 0 (omega arith))

@@ -12,7 +12,7 @@ use Rattle.catalogue.specs.Records.{slot, header, row, weight, header_size}
 use Rattle.catalogue.specs.Checks.{Said, nothing, sheets_of, content_of, is_load, cap_of, scope_of, well_scoped, well_weighed, has_list, signed_four, fresh}
 use Rattle.catalogue.specs.Verdict.{content}
 use Rattle.catalogue.specs.Law.{none}
-use Rattle.catalogue.proofs.Reading.{Framed, Gives, passes, gives_more, gives_end, one_by_one}
+use Rattle.catalogue.proofs.Reading.{Framed, ReadsTo, passes, gives_more, gives_end, one_by_one}
 use Rattle.catalogue.proofs.Passing.{four_back, weight_back, weighs_well, length_padded, length_row, fills_well, row_back, all_mid, not_yet, scopes_well, scope_back, sizes_well, tail_back, places_append}
 
 -- a list is as long as what stands before an element, the element, and what stands behind it
@@ -36,7 +36,7 @@ framed_slot : (n : ℕ) → Framed 1 (n ∷ []) (slot (n ∷ []))
 framed_slot n = record { low = omega arith; high = omega arith; long = refl; is = refl; size = refl }
 
 -- one slot more, where there is room for it
-gives_slot : {r : Result Content Fault} (done : List ℕ) (n : ℕ) (rest : List ℕ) → length done < 48 → (1 ≤ n) × (n ≤ 32) → Gives rest (slots (done ++ n ∷ [])) r → Gives (slot_bytes n ++ rest) (slots done) r
+gives_slot : {r : Result Content Fault} (done : List ℕ) (n : ℕ) (rest : List ℕ) → length done < 48 → (1 ≤ n) × (n ≤ 32) → ReadsTo rest (slots (done ++ n ∷ [])) r → ReadsTo (slot_bytes n ++ rest) (slots done) r
 gives_slot done n rest room size g =
     gives_more (slots done) rest (framed_slot n) tt
     (passes 4 refl
@@ -55,15 +55,15 @@ length_cap Fit z = refl
 length_cap Bar z = refl
 length_cap Load z = refl
 
-length_head : (t : Sheet) → length t.scope ≤ 8 → suc (length (head_bytes t)) ≡ header_size t.make
+pub length_head : (t : Sheet) → length t.scope ≤ 8 → suc (length (head_bytes t)) ≡ header_size t.make
 length_head t few =
     omega (arith, length_cap t.make t.«cap», length-append (padded t.scope) (cap_bytes t.make t.«cap»), length_padded t.scope few)
 
 -- a cap is that of a load sheet, else 0
-cap_back : (m : Make) (t : Sheet) (b : List ℕ) → Lacks m t → SFits w32 t.«cap» → drop 9 b ≡ cap_bytes m t.«cap» → cap_of m b ≡ t.«cap»
-cap_back Fit t b lacks f e = sym lacks.1
-cap_back Bar t b lacks f e = sym lacks.1
-cap_back Load t b lacks f e = ap signed_four e ∙ four_back t.«cap» f
+cap_told : (m : Make) (t : Sheet) (b : List ℕ) → Lacks m t → SFits w32 t.«cap» → drop 9 b ≡ cap_bytes m t.«cap» → cap_of m b ≡ t.«cap»
+cap_told Fit t b lacks f e = sym lacks.1
+cap_told Bar t b lacks f e = sym lacks.1
+cap_told Load t b lacks f e = ap signed_four e ∙ four_back t.«cap» f
 
 -- a load sheet has room where it keeps the limit
 load_room : (m : Make) (n : ℕ) → is_one m + n ≤ 8 → (is_load m && leb 8 n) ≡ false
@@ -83,12 +83,12 @@ within os es t = record { options = os; earlier = es; newest = Some t }
 fresh_back : (os : List ℕ) (t : Sheet) → GoodSheet os t → fresh t.make (head_bytes t) ≡ partly t [] []
 fresh_back os t g =
     let tail = cap_bytes t.make t.«cap» in
-    let cap-is = cap_back t.make t (head_bytes t) g.lacks g.fits (tail_back t.scope tail g.some g.few) in
+    let cap-is = cap_told t.make t (head_bytes t) g.lacks g.fits (tail_back t.scope tail g.some g.few) in
     let scope_is = scope_back t.scope tail g.some g.few in
     ap (λ z. record { make = t.make; scope = scope_of (head_bytes t); «cap» = z; rows = []; weights = [] }) cap-is ∙ ap (λ l. record { make = t.make; scope = l; «cap» = t.«cap»; rows = []; weights = [] }) scope_is
 
 -- a header, where there is room for its sheet
-gives_header : {r : Result Content Fault} (s : Said) (t : Sheet) (rest : List ℕ) → GoodSheet s.options t → length (sheets_of s) < 64 → is_one t.make + loads_in (sheets_of s) ≤ 8 → Gives rest (within s.options (sheets_of s) (partly t [] [])) r → Gives (kind_of t.make ∷ head_bytes t ++ rest) s r
+gives_header : {r : Result Content Fault} (s : Said) (t : Sheet) (rest : List ℕ) → GoodSheet s.options t → length (sheets_of s) < 64 → is_one t.make + loads_in (sheets_of s) ≤ 8 → ReadsTo rest (within s.options (sheets_of s) (partly t [] [])) r → ReadsTo (kind_of t.make ∷ head_bytes t ++ rest) s r
 gives_header {r} s t rest g room load h =
     let tail = cap_bytes t.make t.«cap» in
     let sized = sizes_well t.scope tail g.some g.few in
@@ -97,18 +97,18 @@ gives_header {r} s t rest g room load h =
     (passes 5 (or_from _ _ (lt-leb 64 (length (sheets_of s)) room) (load_room t.make (loads_in (sheets_of s)) load))
     (passes 7 (not_from_true _ sized)
     (passes 8 (not_from_true _ scoped) none)))
-    (subst (λ u. Gives rest (within s.options (sheets_of s) u) r) (sym (fresh_back s.options t g)) h)
+    (subst (λ u. ReadsTo rest (within s.options (sheets_of s) u) r) (sym (fresh_back s.options t g)) h)
 
 -- a sheet with a row takes rows, and one with a weight takes weights
-takes_rows_lem : (m : Make) (t : Sheet) → Lacks m t → 0 < length t.rows → is_load m ≡ false
-takes_rows_lem Fit t lacks h = refl
-takes_rows_lem Bar t lacks h = refl
-takes_rows_lem Load t lacks h = absurd (omega (arith, ap length lacks))
+row_means_rows : (m : Make) (t : Sheet) → Lacks m t → 0 < length t.rows → is_load m ≡ false
+row_means_rows Fit t lacks h = refl
+row_means_rows Bar t lacks h = refl
+row_means_rows Load t lacks h = absurd (omega (arith, ap length lacks))
 
-takes_weights_lem : (m : Make) (t : Sheet) → Lacks m t → 0 < length t.weights → is_load m ≡ true
-takes_weights_lem Fit t lacks h = absurd (omega (arith, ap length lacks.0))
-takes_weights_lem Bar t lacks h = absurd (omega (arith, ap length lacks.0))
-takes_weights_lem Load t lacks h = refl
+weight_means_load : (m : Make) (t : Sheet) → Lacks m t → 0 < length t.weights → is_load m ≡ true
+weight_means_load Fit t lacks h = absurd (omega (arith, ap length lacks.0))
+weight_means_load Bar t lacks h = absurd (omega (arith, ap length lacks.0))
+weight_means_load Load t lacks h = refl
 
 framed_row : (b : List ℕ) → length b ≡ 8 → Framed 5 b (row b)
 framed_row b e = record { low = omega arith; high = omega arith; long = e; is = refl; size = omega arith }
@@ -118,7 +118,7 @@ framed_weight b e = record { low = omega arith; high = omega arith; long = e; is
 
 module _ {r : Result Content Fault} (os : List ℕ) (es : List Sheet) (t : Sheet) (g : GoodSheet os t) where
   -- one row more of the sheet, where there is room for all its rows
-  gives_row : (done : List (List ℕ)) (x : List ℕ) (left : List (List ℕ)) → done ++ x ∷ left ≡ t.rows → rows_in es + length t.rows ≤ 4096 → (rest : List ℕ) → Gives rest (within os es (partly t (done ++ x ∷ []) [])) r → Gives (row_bytes x ++ rest) (within os es (partly t done [])) r
+  gives_row : (done : List (List ℕ)) (x : List ℕ) (left : List (List ℕ)) → done ++ x ∷ left ≡ t.rows → rows_in es + length t.rows ≤ 4096 → (rest : List ℕ) → ReadsTo rest (within os es (partly t (done ++ x ∷ []) [])) r → ReadsTo (row_bytes x ++ rest) (within os es (partly t done [])) r
   gives_row done x left e room rest h =
       let scope = t.scope in
       let s = within os es (partly t done []) in
@@ -127,16 +127,16 @@ module _ {r : Result Content Fault} (os : List ℕ) (es : List Sheet) (t : Sheet
       let back = row_back os scope x good in
       let new = not_yet done x left e g.rows_apart in
       let short : length x ≤ 8 = omega (arith, length_row os scope x good, g.few) in
-      let makes = takes_rows_lem t.make t g.lacks (omega arith) in
+      let makes = row_means_rows t.make t g.lacks (omega arith) in
       gives_more s rest (framed_row (padded x) (length_padded x short)) tt
       (passes 4 (ap (λ b. not (not b)) makes)
       (passes 5 (lt-leb 4096 (rows_in (sheets_of s)) (omega (arith, rows_append es (partly t done [] ∷ []))))
       (passes 9 (not_from_true _ (fills_well os scope x (8 - length x) good))
       (passes 10 (ap (λ b. has_list b done) back ∙ new) none))))
-      (subst (λ b. Gives rest (within os es (partly t (done ++ b ∷ []) [])) r) (sym back) h)
+      (subst (λ b. ReadsTo rest (within os es (partly t (done ++ b ∷ []) [])) r) (sym back) h)
 
   -- one weight more of the sheet
-  gives_weight : (done : List Weight) (x : Weight) (left : List Weight) → done ++ x ∷ left ≡ t.weights → (rest : List ℕ) → Gives rest (within os es (partly t t.rows (done ++ x ∷ []))) r → Gives (weight_bytes x ++ rest) (within os es (partly t t.rows done)) r
+  gives_weight : (done : List Weight) (x : Weight) (left : List Weight) → done ++ x ∷ left ≡ t.weights → (rest : List ℕ) → ReadsTo rest (within os es (partly t t.rows (done ++ x ∷ []))) r → ReadsTo (weight_bytes x ++ rest) (within os es (partly t t.rows done)) r
   gives_weight done x left e rest h =
       let scope = t.scope in
       let b = x.position ∷ x.option ∷ two_bytes x.amount in
@@ -144,24 +144,24 @@ module _ {r : Result Content Fault} (os : List ℕ) (es : List Sheet) (t : Sheet
       let good = all_mid (GoodWeight os scope) done x left e g.weights in
       let back = weight_back os scope x good in
       let new = not_yet (places done) (place x) (places left) (sym (places_append done (x ∷ left)) ∙ ap places e) g.weights_apart in
-      let makes = takes_weights_lem t.make t g.lacks (omega arith) in
+      let makes = weight_means_load t.make t g.lacks (omega arith) in
       gives_more (within os es (partly t t.rows done)) rest (framed_weight b refl) tt
       (passes 4 (not_from_true _ makes)
       (passes 11 (not_from_true _ (ap (well_weighed os scope) back ∙ weighs_well os scope x good))
       (passes 12 new none)))
-      (subst (λ v. Gives rest (within os es (partly t t.rows (done ++ v ∷ []))) r) (sym back) h)
+      (subst (λ v. ReadsTo rest (within os es (partly t t.rows (done ++ v ∷ []))) r) (sym back) h)
 
   -- all rows and weights of the sheet
-  gives_entries : rows_in es + length t.rows ≤ 4096 → (rest : List ℕ) → Gives rest (within os es t) r → Gives (entry_bytes t ++ rest) (within os es (partly t [] [])) r
+  gives_entries : rows_in es + length t.rows ≤ 4096 → (rest : List ℕ) → ReadsTo rest (within os es t) r → ReadsTo (entry_bytes t ++ rest) (within os es (partly t [] [])) r
   gives_entries room rest h =
       let ws = flat_map weight_bytes t.weights in
-      let weighed = one_by_one weight_bytes (λ done more. Gives more (within os es (partly t t.rows done)) r) t.weights gives_weight rest h in
-      let rowed = one_by_one row_bytes (λ done more. Gives more (within os es (partly t done [])) r) t.rows (λ done x left e. gives_row done x left e room) (ws ++ rest) weighed in
-      subst (λ l. Gives l (within os es (partly t [] [])) r) (sym (append_assoc (flat_map row_bytes t.rows) ws rest)) rowed
+      let weighed = one_by_one weight_bytes (λ done more. ReadsTo more (within os es (partly t t.rows done)) r) t.weights gives_weight rest h in
+      let rowed = one_by_one row_bytes (λ done more. ReadsTo more (within os es (partly t done [])) r) t.rows (λ done x left e. gives_row done x left e room) (ws ++ rest) weighed in
+      subst (λ l. ReadsTo l (within os es (partly t [] [])) r) (sym (append_assoc (flat_map row_bytes t.rows) ws rest)) rowed
 
 -- Wherever the slots and these sheets were said, the bytes left give the answer.
 abbrev Told : List ℕ → Result Content Fault → List Sheet → List ℕ → Type 0
-Told os r ts rest = (s : Said) → s.options ≡ os → sheets_of s ≡ ts → Gives rest s r
+Told os r ts rest = (s : Said) → s.options ≡ os → sheets_of s ≡ ts → ReadsTo rest s r
 
 module _ (w : Content) (ok : Sound w) where
   -- one sheet more: its header, its rows and its weights
@@ -176,27 +176,27 @@ module _ (w : Content) (ok : Sound w) where
       let long-now = ap length st in
       let entries = gives_entries s.options (sheets_of s) t good (omega (arith, ok.rows)) rest (h (within s.options (sheets_of s) t) so (ap (λ l. l ++ t ∷ []) st)) in
       let whole = gives_header s t (entry_bytes t ++ rest) good (omega (arith, ok.sheets)) (omega (arith, ok.loads)) entries in
-      subst (λ l. Gives l s (Ok w)) (sym (append_assoc (kind_of t.make ∷ head_bytes t) (entry_bytes t) rest)) whole
+      subst (λ l. ReadsTo l s (Ok w)) (sym (append_assoc (kind_of t.make ∷ head_bytes t) (entry_bytes t) rest)) whole
 
   -- the end, once all is said
   gives_last : Told w.options (Ok w) w.sheets (7 ∷ [])
   gives_last s so st =
       let said : content_of s ≡ w = ap (λ o. record { options = o; sheets = sheets_of s }) so ∙ ap (λ l. record { options = w.options; sheets = l }) st in
       let some : length s.options ≡ 0 → ⊥ = λ z. omega (arith, ok.some, ap length so) in
-      subst (λ c. Gives (7 ∷ []) s (Ok c)) said (gives_end s (passes 13 (ne_eqb _ 0 some) (passes 14 refl none)))
+      subst (λ c. ReadsTo (7 ∷ []) s (Ok c)) said (gives_end s (passes 13 (ne_eqb _ 0 some) (passes 14 refl none)))
 
-  gives_sheets : Gives (flat_map sheet_bytes w.sheets ++ 7 ∷ []) (slots w.options) (Ok w)
+  gives_sheets : ReadsTo (flat_map sheet_bytes w.sheets ++ 7 ∷ []) (slots w.options) (Ok w)
   gives_sheets = one_by_one sheet_bytes (Told w.options (Ok w)) w.sheets gives_sheet (7 ∷ []) gives_last (slots w.options) refl refl
 
   -- one slot more of the list
-  gives_options : (done : List ℕ) (n : ℕ) (left : List ℕ) → done ++ n ∷ left ≡ w.options → (rest : List ℕ) → Gives rest (slots (done ++ n ∷ [])) (Ok w) → Gives (slot_bytes n ++ rest) (slots done) (Ok w)
+  gives_options : (done : List ℕ) (n : ℕ) (left : List ℕ) → done ++ n ∷ left ≡ w.options → (rest : List ℕ) → ReadsTo rest (slots (done ++ n ∷ [])) (Ok w) → ReadsTo (slot_bytes n ++ rest) (slots done) (Ok w)
   gives_options done n left e rest h =
       gives_slot done n rest (omega (arith, length_mid done n left e, ok.slots)) (all_mid (λ m. (1 ≤ m) × (m ≤ 32)) done n left e ok.sizes) h
 
-  gives_all : Gives (written w) nothing (Ok w)
+  gives_all : ReadsTo (written w) nothing (Ok w)
   gives_all =
       let ts = flat_map sheet_bytes w.sheets in
-      subst (λ l. Gives l nothing (Ok w)) (sym (append_assoc (flat_map slot_bytes w.options) ts (7 ∷ []))) (one_by_one slot_bytes (λ done more. Gives more (slots done) (Ok w)) w.options gives_options (ts ++ 7 ∷ []) gives_sheets)
+      subst (λ l. ReadsTo l nothing (Ok w)) (sym (append_assoc (flat_map slot_bytes w.options) ts (7 ∷ []))) (one_by_one slot_bytes (λ done more. ReadsTo more (slots done) (Ok w)) w.options gives_options (ts ++ 7 ∷ []) gives_sheets)
 
 -- The file of a sound list is accepted, and says just that list.
 pub complete : (w : Content) → Sound w → content (written w) ≡ Ok w

@@ -5,9 +5,10 @@ pub mod Run
 pub mod Bodies
 pub mod Good
 pub mod Sound
+pub mod Laid
+pub mod Longest
 pub mod Meaning
 pub mod Held
-pub mod Laid
 pub mod Scan
 pub mod Walk
 pub mod Told

@@ -1,6 +1,7 @@
 -- What the verdict on a file means. Assumes nothing.
-use Rattle.std.proofs.Common.{◌≡◌, ℕ, true, List, IfOk, Ok, Err, Result, sym, refl, subst, arith}
+use Rattle.std.proofs.Common.{◌≡◌, ℕ, ◌≤◌, true, List, length, IfOk, Ok, Err, Result, sym, refl, subst, arith}
 use Rattle.std.proofs.lemmas.Bool.Decides.{nat_tests}
+use Rattle.catalogue.specs.declared.checked.TheConstants.{LONGEST}
 use Rattle.catalogue.specs.declared.counts.Counts.{Counts}
 use Rattle.catalogue.specs.declared.fault.Fault.{Fault}
 use Rattle.catalogue.specs.Content.{Content, Sound}
@@ -10,6 +11,7 @@ use Rattle.catalogue.specs.Law.{Octets, Accepted, Refused, Means}
 use Rattle.catalogue.proofs.Complete.{complete}
 use Rattle.catalogue.proofs.Run.{first_fault}
 use Rattle.catalogue.proofs.Sound.{sound}
+use Rattle.catalogue.proofs.Longest.{short}
 
 -- a sound list that is written as these bytes is what they say
 says : (bs : List ℕ) (w : Content) → Sound w → written w ≡ bs → content bs ≡ Ok w
@@ -18,7 +20,7 @@ says bs w s e = subst (λ x. content x ≡ Ok w) e (complete w s)
 accepted : (bs : List ℕ) → Octets bs → (w : Content) → content bs ≡ Ok w → Accepted bs (counts_of w)
 accepted bs o w e =
     let s = sound bs o w e in
-    record { list = w; is = e; sound = s.0; writes = s.1; counts = refl; only = λ v t f. let g = says bs v t f in cc }
+    record { list = w; is = e; sound = s.0; writes = s.1; counts = refl; short = subst (λ x. length x ≤ LONGEST) s.1 (short w s.0); only = λ v t f. let g = says bs v t f in cc }
 
 refused : (bs : List ℕ) (f : Fault) → content bs ≡ Err f → Refused bs f
 refused bs f e =

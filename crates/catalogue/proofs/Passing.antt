@@ -40,9 +40,9 @@ weighs_well options scope w g =
     and_from _ _ (lt-ltb _ _ g.placed) (and_from _ _ (lt-ltb _ _ g.known) (and_from _ _ (not_from_false _ low) (not_from_false _ high)))
 
 -- bytes that are not used, behind those that are
-all_unused_lem : (n : ℕ) → all unused (replicate n 255) ≡ true
-all_unused_lem zero = refl
-all_unused_lem (suc n) = all_unused_lem n
+replicated_unused : (n : ℕ) → all unused (replicate n 255) ≡ true
+replicated_unused zero = refl
+replicated_unused (suc n) = replicated_unused n
 
 -- a body of eight bytes
 pub length_padded : (xs : List ℕ) → length xs ≤ 8 → length (padded xs) ≡ 8
@@ -50,7 +50,7 @@ length_padded xs h = simp (length-append, length-replicate) (omega arith)
 
 -- a row's own test
 pub fills_well : (options scope xs : List ℕ) (n : ℕ) → GoodRow options scope xs → well_filled options scope (xs ++ replicate n 255) ≡ true
-fills_well options [] [] n g = all_unused_lem n
+fills_well options [] [] n g = replicated_unused n
 fills_well options [] (x ∷ xs) n g = absurd g
 fills_well options (s ∷ ss) [] n g = absurd g
 fills_well options (s ∷ ss) (x ∷ xs) n g = and_from _ _ (lt-ltb x (get_or options s 0) g.0) (fills_well options ss xs n g.1)
@@ -109,7 +109,7 @@ module _ (ss tail : List ℕ) (some : 1 ≤ length ss) (few : length ss ≤ 8) w
       let gap = replicate (8 - length ss) 255 in
       let behind : drop (1 + length ss) (length ss ∷ padded ss ++ tail) ≡ gap ++ tail = ap (λ n. drop n (length ss ∷ padded ss ++ tail)) (one-add (length ss)) ∙ ap (drop (length ss)) (append_assoc ss gap tail) ∙ drop_at ss (gap ++ tail) (length ss) refl in
       let unused-gap : take (8 - length ss) (drop (1 + length ss) (length ss ∷ padded ss ++ tail)) ≡ gap = ap (take (8 - length ss)) behind ∙ take_at gap tail (8 - length ss) (length-replicate (8 - length ss) 255) in
-      and_from _ _ (and_from _ _ (le-leb 1 (length ss) some) (le-leb (length ss) 8 few)) (ap (all unused) unused-gap ∙ all_unused_lem (8 - length ss))
+      and_from _ _ (and_from _ _ (le-leb 1 (length ss) some) (le-leb (length ss) 8 few)) (ap (all unused) unused-gap ∙ replicated_unused (8 - length ss))
 
   pub tail_back : drop 9 (length ss ∷ padded ss ++ tail) ≡ tail
   tail_back = drop_at (padded ss) tail 8 (length_padded ss few)

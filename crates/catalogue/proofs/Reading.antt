@@ -64,7 +64,7 @@ module _ (bs : List ℕ) (at k : ℕ) (b rest : List ℕ) (x : Rec) (here : drop
       judged_passes at _ reading_here ∙ ap (λ y. judged at (checks (behind bs at) s y) (follow (content_from n bs) at s y)) record_here ∙ ap (λ m. judged at (checks m s x) (follow (content_from n bs) at s x)) behind_here
 
 -- Bytes that end a file, read on after what the records before them said, give this answer: in any file.
-pub record Gives (rest : List ℕ) (s : Said) (r : Result Content Fault) : Type 0 where
+pub record ReadsTo (rest : List ℕ) (s : Said) (r : Result Content Fault) : Type 0 where
   pub says : (bs : List ℕ) (at n : ℕ) → drop at bs ≡ rest → length rest < n → content_from n bs at s ≡ r
 
 -- a record that is not the end is followed by the next
@@ -76,7 +76,7 @@ follow_inner go at s (weight b) i = refl
 follow_inner go at s end i = absurd i
 
 -- one record more in front, if it passes its checks
-pub gives_more : {k : ℕ} {b : List ℕ} {x : Rec} {r : Result Content Fault} (s : Said) (rest : List ℕ) → Framed k b x → Inner x → Passes (checks (length b + length rest) s x) → Gives rest (after s x) r → Gives (k ∷ b ++ rest) s r
+pub gives_more : {k : ℕ} {b : List ℕ} {x : Rec} {r : Result Content Fault} (s : Said) (rest : List ℕ) → Framed k b x → Inner x → Passes (checks (length b + length rest) s x) → ReadsTo rest (after s x) r → ReadsTo (k ∷ b ++ rest) s r
 gives_more {k} {b} {x} {r} s rest f i p g = record { says = go }
   where
     go : (bs : List ℕ) (at n : ℕ) → drop at bs ≡ k ∷ b ++ rest → length (k ∷ b ++ rest) < n → content_from n bs at s ≡ r
@@ -85,7 +85,7 @@ gives_more {k} {b} {x} {r} s rest f i p g = record { says = go }
         read_here bs at k b rest x here f n s ∙ judged_passes at _ p ∙ follow_inner (content_from n bs) at s x i ∙ g.says bs (at + size_of x) n (rest_here bs at k b rest x here f) (omega (arith, length-append b rest))
 
 -- the end, if it passes its checks
-pub gives_end : (s : Said) → Passes (checks 0 s end) → Gives (7 ∷ []) s (Ok (content_of s))
+pub gives_end : (s : Said) → Passes (checks 0 s end) → ReadsTo (7 ∷ []) s (Ok (content_of s))
 gives_end s p = record { says = go }
   where
     framed : Framed 7 [] end

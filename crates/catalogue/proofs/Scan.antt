@@ -12,9 +12,9 @@ pub entries_order : {bs : List ℕ} {at to : ℕ} → Entries bs at to → at �
 entries_order (none h e) = omega arith
 entries_order (more h e r) = omega (arith, entries_order r)
 
-pub entries_end_lem : {bs : List ℕ} {at to : ℕ} → Entries bs at to → to < length bs
-entries_end_lem (none h e) = h
-entries_end_lem (more h e r) = entries_end_lem r
+pub entries_end_inside : {bs : List ℕ} {at to : ℕ} → Entries bs at to → to < length bs
+entries_end_inside (none h e) = h
+entries_end_inside (more h e r) = entries_end_inside r
 
 pub entries_next : {bs : List ℕ} {at to : ℕ} → is_entry (kind_at bs at) ≡ true → Entries bs at to → Entries bs (past bs at) to
 entries_next t (none h e) = absurd (both_ways _ e t)

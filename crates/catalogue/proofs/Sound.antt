@@ -13,7 +13,7 @@ use Rattle.catalogue.specs.Checks.{Said, nothing, listed, sheets_of, well_sized,
 use Rattle.catalogue.specs.Verdict.{behind, content}
 use Rattle.catalogue.specs.Law.{Octets, checks_at, Passes, Inner, Passed, start, step}
 use Rattle.catalogue.proofs.Run.{ended, Read, read, size_named, first_passed, rest_passed}
-use Rattle.catalogue.proofs.Bodies.{octets_cons, octets_drop, octets_take, weight_back, place_back, row_back, header_long, header_back}
+use Rattle.catalogue.proofs.Bodies.{octets_cons, octets_drop, octets_take, weight_written, place_back, row_written, header_long, header_written}
 use Rattle.catalogue.proofs.Good.{sheet_fresh, with_row, sheet_row, with_weight, sheet_weight}
 
 -- the bytes of a record
@@ -25,7 +25,7 @@ bytes_of (weight b) = 6 ∷ b
 bytes_of end = 7 ∷ []
 
 -- A record that was read: its bytes lie behind the place, whole.
-record Lies (bs : List ℕ) (at : ℕ) (x : Rec) : Type 0 where
+record ReadWhole (bs : List ℕ) (at : ℕ) (x : Rec) : Type 0 where
   front : take (at + size_of x) bs ≡ take at bs ++ bytes_of x
   long : length (bytes_of x) ≡ size_of x
   octets : Octets (bytes_of x)
@@ -47,8 +47,8 @@ module _ (k : ℕ) (x : List ℕ) (low : 1 ≤ k) (high : k ≤ 7) where
   bytes_named : length x ≡ body_len k → bytes_of (named k x) ≡ k ∷ x
   bytes_named long = under (eqb k 1) (eqb k 2) (eqb k 3) (eqb k 4) (eqb k 5) (eqb k 6) refl refl refl refl refl refl long
 
-lies : (bs : List ℕ) (at : ℕ) → Octets bs → Read bs at → Lies bs at (record_at bs at)
-lies bs at o r =
+read_whole : (bs : List ℕ) (at : ℕ) → Octets bs → Read bs at → ReadWhole bs at (record_at bs at)
+read_whole bs at o r =
     let k = kind_at bs at in
     let n = body_len k in
     let b = take n (drop (at + 1) bs) in
@@ -130,7 +130,7 @@ some_not_none e = let z : ◌≡◌ {A = ℕ} 0 1 = cc in absurd (omega arith)
 
 module _ (bs : List ℕ) (at : ℕ) (os : List ℕ) (es : List Sheet) where
   -- One more slot, where there is no sheet yet.
-  seen_slot : (room : ℕ) (o : Option Sheet) (b : List ℕ) → Lies bs at (slot b) → Passes (checks room (saying os es o) (slot b)) → Seen bs at (saying os es o) → Seen bs (at + 2) (after (saying os es o) (slot b))
+  seen_slot : (room : ℕ) (o : Option Sheet) (b : List ℕ) → ReadWhole bs at (slot b) → Passes (checks room (saying os es o) (slot b)) → Seen bs at (saying os es o) → Seen bs (at + 2) (after (saying os es o) (slot b))
   seen_slot room (Some t) b l p z = absurd (false≢true (sym (first_passed p)))
   seen_slot room None b l p z =
       let n = get_or b 0 0 in
@@ -152,7 +152,7 @@ module _ (bs : List ℕ) (at : ℕ) (os : List ℕ) (es : List Sheet) where
       }
 
   -- One more sheet, of any make.
-  seen_header : (room : ℕ) (o : Option Sheet) (m : Make) (b : List ℕ) → Lies bs at (header m b) → Passes (checks room (saying os es o) (header m b)) → Seen bs at (saying os es o) → Seen bs (at + header_size m) (after (saying os es o) (header m b))
+  seen_header : (room : ℕ) (o : Option Sheet) (m : Make) (b : List ℕ) → ReadWhole bs at (header m b) → Passes (checks room (saying os es o) (header m b)) → Seen bs at (saying os es o) → Seen bs (at + header_size m) (after (saying os es o) (header m b))
   seen_header room o m b l p z =
       let ts = es ++ listed o in
       let new = fresh m b in
@@ -164,7 +164,7 @@ module _ (bs : List ℕ) (at : ℕ) (os : List ℕ) (es : List Sheet) where
       let long : length b + 1 ≡ header_size m = omega (arith, l.long) in
       let octets : Octets b = λ i. l.octets (suc i) in
       record {
-        front = l.front ∙ ap (λ x. take at bs ++ kind_of m ∷ x) (sym (header_back m b long octets sized)) ∙ ap (λ x. take at bs ++ x) (sym (append-nil (kind_of m ∷ head_bytes new))) ∙ ap (λ x. x ++ sheet_bytes new) z.front ∙ flat_map_more sheet_bytes (flat_map slot_bytes os) ts new;
+        front = l.front ∙ ap (λ x. take at bs ++ kind_of m ∷ x) (sym (header_written m b long octets sized)) ∙ ap (λ x. take at bs ++ x) (sym (append-nil (kind_of m ∷ head_bytes new))) ∙ ap (λ x. x ++ sheet_bytes new) z.front ∙ flat_map_more sheet_bytes (flat_map slot_bytes os) ts new;
         slots = z.slots;
         sizes = z.sizes;
         sheets = omega (arith, length_push ts new);
@@ -194,7 +194,7 @@ module _ (bs : List ℕ) (at : ℕ) (os : List ℕ) (es : List Sheet) where
         }
 
   -- One more row in the newest sheet.
-  seen_row : (room : ℕ) (o : Option Sheet) (b : List ℕ) → Lies bs at (row b) → Passes (checks room (saying os es o) (row b)) → Seen bs at (saying os es o) → Seen bs (at + 9) (after (saying os es o) (row b))
+  seen_row : (room : ℕ) (o : Option Sheet) (b : List ℕ) → ReadWhole bs at (row b) → Passes (checks room (saying os es o) (row b)) → Seen bs at (saying os es o) → Seen bs (at + 9) (after (saying os es o) (row b))
   seen_row room None b l p z = absurd (false≢true (sym (first_passed p)))
   seen_row room (Some t) b l p z =
       let r = take (length t.scope) b in
@@ -204,7 +204,7 @@ module _ (bs : List ℕ) (at : ℕ) (os : List ℕ) (es : List Sheet) where
       let few = leb-false 4096 (rows_in (es ++ t ∷ [])) (first_passed q) in
       let fills = not-false _ (first_passed (rest_passed q)) in
       let new = first_passed (rest_passed (rest_passed q)) in
-      let back = row_back os t.scope b (omega (arith, l.long)) g.few fills in
+      let back = row_written os t.scope b (omega (arith, l.long)) g.few fills in
       seen_more t z 9 (with_row t r) (row_bytes r)
       (l.front ∙ ap (λ x. take at bs ++ x) (sym back))
       (row_more t r (no_weights_in t.make t make g.lacks))
@@ -213,7 +213,7 @@ module _ (bs : List ℕ) (at : ℕ) (os : List ℕ) (es : List Sheet) where
       (sheet_row os t b make fills new g)
 
   -- One more weight in the newest sheet.
-  seen_weight : (room : ℕ) (o : Option Sheet) (b : List ℕ) → Lies bs at (weight b) → Passes (checks room (saying os es o) (weight b)) → Seen bs at (saying os es o) → Seen bs (at + 5) (after (saying os es o) (weight b))
+  seen_weight : (room : ℕ) (o : Option Sheet) (b : List ℕ) → ReadWhole bs at (weight b) → Passes (checks room (saying os es o) (weight b)) → Seen bs at (saying os es o) → Seen bs (at + 5) (after (saying os es o) (weight b))
   seen_weight room None b l p z = absurd (false≢true (sym (first_passed p)))
   seen_weight room (Some t) b l p z =
       let w = weight_of b in
@@ -222,7 +222,7 @@ module _ (bs : List ℕ) (at : ℕ) (os : List ℕ) (es : List Sheet) where
       let weighs : well_weighed os t.scope w ≡ true = not-false _ (first_passed q) in
       let four : length b ≡ 4 = omega (arith, l.long) in
       let new = subst (λ x. has_list x (places t.weights) ≡ false) (place_back b four) (first_passed (rest_passed q)) in
-      let back = weight_back b four (λ i. l.octets (suc i)) in
+      let back = weight_written b four (λ i. l.octets (suc i)) in
       seen_more t z 5 (with_weight t w) (weight_bytes w)
       (l.front ∙ ap (λ x. take at bs ++ x) (sym back))
       (weight_more t w)
@@ -230,7 +230,7 @@ module _ (bs : List ℕ) (at : ℕ) (os : List ℕ) (es : List Sheet) where
       (omega (arith, rows_push es t, z.rows))
       (sheet_weight os t w make weighs new (newest_good t z))
 
-seen_step : (bs : List ℕ) (at room : ℕ) (s : Said) (x : Rec) → Lies bs at x → Passes (checks room s x) → Inner x → Seen bs at s → Seen bs (at + size_of x) (after s x)
+seen_step : (bs : List ℕ) (at room : ℕ) (s : Said) (x : Rec) → ReadWhole bs at x → Passes (checks room s x) → Inner x → Seen bs at s → Seen bs (at + size_of x) (after s x)
 seen_step bs at room s (slot b) l p i z = seen_slot bs at s.options s.earlier room s.newest b l p z
 seen_step bs at room s (header m b) l p i z = seen_header bs at s.options s.earlier room s.newest m b l p z
 seen_step bs at room s (row b) l p i z = seen_row bs at s.options s.earlier room s.newest b l p z
@@ -242,10 +242,10 @@ checked : (bs : List ℕ) (at : ℕ) (s : Said) → Passes (checks_at bs at s) �
 checked bs at s p = rest_passed (rest_passed (rest_passed p))
 
 -- What is said at each place that a run passes is seen there.
-seen : (bs : List ℕ) → Octets bs → {at : ℕ} {s : Said} → Passed bs at s → Seen bs at s
-seen bs o start = seen_none bs
-seen bs o (step {at} {s} before passes i) =
-    seen_step bs at (behind bs at) s (record_at bs at) (lies bs at o (read bs at s passes)) (checked bs at s passes) i (seen bs o before)
+passed_seen : (bs : List ℕ) → Octets bs → {at : ℕ} {s : Said} → Passed bs at s → Seen bs at s
+passed_seen bs o start = seen_none bs
+passed_seen bs o (step {at} {s} before passes i) =
+    seen_step bs at (behind bs at) s (record_at bs at) (read_whole bs at o (read bs at s passes)) (checked bs at s passes) i (passed_seen bs o before)
 
 -- Accepted bytes are the writing of a sound list.
 pub sound : (bs : List ℕ) → Octets bs → (w : Content) → content bs ≡ Ok w → Sound w × (written w ≡ bs)
@@ -253,8 +253,8 @@ sound bs o w e =
     let n = ended bs w e in
     let at = n.from in
     let s = n.said in
-    let z = seen bs o n.before in
-    let l = subst (Lies bs at) n.ends (lies bs at o (read bs at s n.passes)) in
+    let z = passed_seen bs o n.before in
+    let l = subst (ReadWhole bs at) n.ends (read_whole bs at o (read bs at s n.passes)) in
     let p = subst (λ x. Passes (checks (behind bs at) s x)) n.ends (checked bs at s n.passes) in
     let some = eqb-false (length s.options) 0 (first_passed p) in
     let last = ltb-false 0 (behind bs at) (first_passed (rest_passed p)) in

@@ -3,7 +3,7 @@ use Rattle.std.proofs.Common.{◌≡◌, ℕ, ◌+◌, ◌*◌, ◌<◌, ◌≤�
 use Rattle.std.proofs.lemmas.Option.{slice_get-get_or, slice_get_past}
 use Rattle.catalogue.specs.declared.counts.Counts.{Counts}
 use Rattle.catalogue.specs.Verdict.{content}
-use Rattle.catalogue.specs.declared.sheets.Sheets.{Sheets}
+use Rattle.catalogue.specs.declared.sheet_scan.SheetScan.{SheetScan}
 use Rattle.catalogue.specs.Views.{options_said}
 use Rattle.catalogue.specs.Places.{Ahead}
 use Rattle.catalogue.specs.Listing.{Lists}
@@ -31,6 +31,6 @@ module _ (bs : List ℕ) (c : Counts) where
       subst (λ n. Ahead bs (2 * n) h.list.sheets) (sym (slots_are h))
       (subst (λ l. Ahead l (2 * length h.list.options) h.list.sheets) h.writes (sheets_lie h.list h.sound))
 
-  pub lists : (s : Sheets) → s.bytes.now ≡ bs → s.at ≡ 2 * c.slots → Held bs c → Lists (content bs) s
+  pub lists : (s : SheetScan) → s.bytes.now ≡ bs → s.at ≡ 2 * c.slots → Held bs c → Lists (content bs) s
   lists s e f h =
       record { list = h.list; is = h.is; ahead = subst (λ b. Ahead b s.at h.list.sheets) (sym e) (subst (λ n. Ahead bs n h.list.sheets) (sym f) (sheets_are h)) }

@@ -10,15 +10,15 @@ use Rattle.catalogue.specs.declared.kind.Kind.{Kind}
 use Rattle.catalogue.specs.declared.kind.Kind.TheVariants.{Slot, Fit, Bar, Load, Row, Weight, End}
 use Rattle.catalogue.specs.declared.make.Make.{Make}
 use Rattle.catalogue.specs.declared.make.Make.TheVariants.{Fit as FitMake, Bar as BarMake, Load as LoadMake}
-use Rattle.catalogue.specs.declared.sheets.Sheets.{Sheets}
+use Rattle.catalogue.specs.declared.sheet_scan.SheetScan.{SheetScan}
 use Rattle.catalogue.specs.declared.view.View.{View}
 use Rattle.catalogue.specs.Content.{Sheet}
 use Rattle.catalogue.specs.Writing.{kind_of}
 use Rattle.catalogue.specs.Records.{kind_at, body_len, header_size}
 use Rattle.catalogue.specs.Kinds.{code_of, make_of}
 use Rattle.catalogue.specs.Views.{Shown, is_make, of_make, showing_of, seen}
-use Rattle.catalogue.specs.Places.{past, Entries, Lies, Ahead, end, next}
-use Rattle.catalogue.specs.Listing.{entry_for, entry_by, Gives, Steps, Stands}
+use Rattle.catalogue.specs.Places.{past, Entries, SheetLies, Ahead, end, next}
+use Rattle.catalogue.specs.Listing.{entry_for, entry_by, Gives, NextGives, Stands}
 
 -- the headers of a make have its byte of kind
 few_kinds : (m : Make) → (2 ≤ kind_of m) × (kind_of m ≤ 4)
@@ -73,7 +73,7 @@ pub record Met (bs : List ℕ) (at : ℕ) (m : Make) (ts : List Sheet) : Type 0 
   pub to : ℕ
   pub is : ts ≡ sheet ∷ rest
   pub make : sheet.make ≡ m
-  pub lies : Lies bs at sheet to
+  pub lies : SheetLies bs at sheet to
   pub ahead : Ahead bs to rest
 
 -- what the kind at the place tells
@@ -103,42 +103,42 @@ parts {bs = bs} {at = at} {m = m} k size code e is h =
       entries = subst (λ n. Entries bs n h.to) (sym here) lies.entries;
     }
 
-pub here : {bs : List ℕ} {at : ℕ} {ts : List Sheet} {m : Make} (k : Kind) (size : ℕ) → code_of k ≡ kind_at bs at → Some m ≡ make_of k → size ≡ 1 + body_len (code_of k) → Ahead bs at ts → (h : Met bs at m ts) × Parts bs at size h.to m
-here {m = m} k size code e is a = let h = met k m code (sym e) a in (h, parts k size code (sym e) is h)
+pub header_here : {bs : List ℕ} {at : ℕ} {ts : List Sheet} {m : Make} (k : Kind) (size : ℕ) → code_of k ≡ kind_at bs at → Some m ≡ make_of k → size ≡ 1 + body_len (code_of k) → Ahead bs at ts → (h : Met bs at m ts) × Parts bs at size h.to m
+header_here {m = m} k size code e is a = let h = met k m code (sym e) a in (h, parts k size code (sym e) is h)
 
 pub entry_same : (m k : Make) (a b : List ℕ) (y z : ℤ) (d e : List ℕ) → m ≡ k → a ≡ b → y ≡ z → d ≡ e → ◌≡◌ {A = Make × Shown} (m, record { scope = a; «cap» = y; entries = d }) (k, record { scope = b; «cap» = z; entries = e })
 entry_same m k a b y z d e l p q r = cc
 
-pub gives_first : (x : Make × View) (u : Sheets) (ts : List Sheet) (t : Sheet) (rest : List Sheet) → ts ≡ t ∷ rest → entry_by x ≡ entry_for t → Ahead u.bytes.now u.at rest → Gives ts (Some x) u
+pub gives_first : (x : Make × View) (u : SheetScan) (ts : List Sheet) (t : Sheet) (rest : List Sheet) → ts ≡ t ∷ rest → entry_by x ≡ entry_for t → Ahead u.bytes.now u.at rest → Gives ts (Some x) u
 gives_first x u ts t rest is same a = subst (λ l. Gives l (Some x) u) (sym is) (same, a)
 
-pub stands_at : (u : Sheets) (ts : List Sheet) → Ahead u.bytes.now u.at ts → Stands u
+pub stands_at : (u : SheetScan) (ts : List Sheet) → Ahead u.bytes.now u.at ts → Stands u
 stands_at u ts a = record { sheets = ts; ahead = a }
 
 -- going through the sheets that lie ahead gives each of them, in their order
-pub goes_through : (ts : List Sheet) (s : Sheets) → Ahead s.bytes.now s.at ts → YieldsList Steps entry_by s (map entry_for ts)
+pub goes_through : (ts : List Sheet) (s : SheetScan) → Ahead s.bytes.now s.at ts → YieldsList NextGives entry_by s (map entry_for ts)
 goes_through ts s a = record { runs = each ts s a }
   where
-    each : (ts : List Sheet) (s : Sheets) → Ahead s.bytes.now s.at ts → AlwaysYields Steps entry_by s (map entry_for ts)
+    each : (ts : List Sheet) (s : SheetScan) → Ahead s.bytes.now s.at ts → AlwaysYields NextGives entry_by s (map entry_for ts)
     each [] s a = λ x j g. g [] a
     each (t ∷ ts) s a = (λ j g. g (t ∷ ts) a, λ x j g. let h = g (t ∷ ts) a in (h.0, each ts j h.1))
 
 -- those of one make
-one : (m k : Make) → is_make k m ≡ is_make m k
-one FitMake FitMake = refl
-one FitMake BarMake = refl
-one FitMake LoadMake = refl
-one BarMake FitMake = refl
-one BarMake BarMake = refl
-one BarMake LoadMake = refl
-one LoadMake FitMake = refl
-one LoadMake BarMake = refl
-one LoadMake LoadMake = refl
+same_make : (m k : Make) → is_make k m ≡ is_make m k
+same_make FitMake FitMake = refl
+same_make FitMake BarMake = refl
+same_make FitMake LoadMake = refl
+same_make BarMake FitMake = refl
+same_make BarMake BarMake = refl
+same_make BarMake LoadMake = refl
+same_make LoadMake FitMake = refl
+same_make LoadMake BarMake = refl
+same_make LoadMake LoadMake = refl
 
 pub picked : (m : Make) (ts : List Sheet) → filter (λ p. is_make p.0 m) (map entry_for ts) ≡ map entry_for (of_make m ts)
 picked m [] = refl
 picked m (t ∷ ts) =
-    ap (λ b. cond b (entry_for t ∷ filter (λ p. is_make p.0 m) (map entry_for ts)) (filter (λ p. is_make p.0 m) (map entry_for ts))) (one m t.make) ∙ ap (λ l. cond (is_make m t.make) (entry_for t ∷ l) l) (picked m ts) ∙ picks (is_make m t.make)
+    ap (λ b. cond b (entry_for t ∷ filter (λ p. is_make p.0 m) (map entry_for ts)) (filter (λ p. is_make p.0 m) (map entry_for ts))) (same_make m t.make) ∙ ap (λ l. cond (is_make m t.make) (entry_for t ∷ l) l) (picked m ts) ∙ picks (is_make m t.make)
   where
     picks : (b : Bool) → cond b (entry_for t ∷ map entry_for (of_make m ts)) (map entry_for (of_make m ts)) ≡ map entry_for (cond b (t ∷ of_make m ts) (of_make m ts))
     picks true = refl

@@ -1,5 +1,6 @@
 -- What the verdict on a file means, in the words of slots and sheets. Assumes nothing.
-use Rattle.std.specs.Prelude.{◌≡◌, ℕ, ◌+◌, ◌<◌, true, false, List, [], ◌∷◌, ◌++◌, length, Ok, Err, Result, ◌≢◌, slice_index}
+use Rattle.std.specs.Prelude.{◌≡◌, ℕ, ◌+◌, ◌<◌, ◌≤◌, true, false, List, [], ◌∷◌, ◌++◌, length, Ok, Err, Result, ◌≢◌, slice_index}
+use Rattle.catalogue.specs.declared.checked.TheConstants.{LONGEST}
 use Rattle.catalogue.specs.declared.counts.Counts.{Counts}
 use Rattle.catalogue.specs.declared.fault.Fault.{Fault}
 use Rattle.catalogue.specs.Content.{Content, Sound}
@@ -48,13 +49,15 @@ pub record FirstFault (bs : List ℕ) (f : Fault) : Type 0 where
   pub is : f ≡ fault_at f.number from
   pub at_end : f.number ≡ 1 → f.place ≡ length bs
 
--- The file is the writing of a sound list of slots and sheets, and of no other; these are its counts.
+-- The file is the writing of a sound list of slots and sheets, and of no other; these are its counts. It has at most
+-- as many bytes as the constant says, so whoever reads so many reads it whole.
 pub record Accepted (bs : List ℕ) (c : Counts) : Type 0 where
   pub list : Content
   pub is : content bs ≡ Ok list
   pub sound : Sound list
   pub writes : written list ≡ bs
   pub counts : counts_of list ≡ c
+  pub short : length bs ≤ LONGEST
   pub only : (w : Content) → Sound w → written w ≡ bs → w ≡ list
 
 -- The file is the writing of no sound list, and the fault is its first.

@@ -19,7 +19,7 @@ pub data Entries (bs : List ℕ) : ℕ → ℕ → Type 0 where
   more : {at to : ℕ} → at < length bs → is_entry (kind_at bs at) ≡ true → Entries bs (past bs at) to → Entries bs at to
 
 -- a sheet lies from a place, where its header is, up to another
-pub record Lies (bs : List ℕ) (at : ℕ) (t : Sheet) (to : ℕ) : Type 0 where
+pub record SheetLies (bs : List ℕ) (at : ℕ) (t : Sheet) (to : ℕ) : Type 0 where
   pub header : past bs at < length bs
   pub kind : kind_at bs at ≡ kind_of t.make
   pub few : slice_index_or bs (at + 1) 0 ≤ 8  -- so many slots it names
@@ -31,4 +31,4 @@ pub record Lies (bs : List ℕ) (at : ℕ) (t : Sheet) (to : ℕ) : Type 0 where
 -- from a place on lie these sheets and nothing else, and then the end
 pub data Ahead (bs : List ℕ) : ℕ → List Sheet → Type 0 where
   end : {at : ℕ} → at < length bs → kind_at bs at ≡ 7 → Ahead bs at []
-  next : {at to : ℕ} {t : Sheet} {ts : List Sheet} → Lies bs at t to → Ahead bs to ts → Ahead bs at (t ∷ ts)
+  next : {at to : ℕ} {t : Sheet} {ts : List Sheet} → SheetLies bs at t to → Ahead bs to ts → Ahead bs at (t ∷ ts)

@@ -7,7 +7,7 @@ ghost use Rattle.catalogue.specs.Listing.{Lists};
 
 use crate::checked::Catalogue;
 use crate::make::Make;
-use crate::sheets::Sheets;
+use crate::sheet_scan::SheetScan;
 use crate::view::View;
 
 impl<'a> Catalogue<'a> {
@@ -23,10 +23,10 @@ impl<'a> Catalogue<'a> {
     }
 
     // Its sheets in the file's order, which begin behind its slots.
-    fn sheets(&self) -> Sheets<'a>
+    fn sheets(&self) -> SheetScan<'a>
         ensures { Lists (content self.now.bytes.now) result }
     {
-        Sheets {
+        SheetScan {
             bytes: self.bytes,
             at: 2 * usize::from(self.counts.slots),
         }

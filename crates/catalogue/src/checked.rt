@@ -4,6 +4,10 @@ ghost use Rattle.catalogue.specs.Verdict.{accepts, built_in, built_in_counts};
 
 use crate::counts::Counts;
 
+// How many bytes an accepted file has at most: those of 48 slots, of 56 headers of fit or bar sheets and 8 of load
+// sheets, of 4,096 rows, of a weight for each of 32 options at each of 8 positions of 8 load sheets, and of the end.
+pub const LONGEST: usize = 48 * 2 + 56 * 10 + 8 * 14 + 4096 * 9 + 8 * 8 * 32 * 5 + 1;
+
 // Its bytes are always an accepted file, and hold so much.
 #[derive(Drop)]
 pub struct Catalogue<'a> {

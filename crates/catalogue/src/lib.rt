@@ -7,6 +7,6 @@ pub mod counts;
 pub mod fault;
 pub mod kind;
 pub mod make;
-mod sheets;
+mod sheet_scan;
 pub mod view;
 pub mod wording;

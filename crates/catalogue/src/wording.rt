@@ -1,5 +1,5 @@
 // How what a check answers is put into words: one line, without its end. And the words of layers and makes.
-ghost use Rattle.std.specs.Prelude.{Some};
+ghost use Rattle.std.specs.Prelude.{◌≡◌, Some};
 ghost use Rattle.catalogue.specs.Wording.{layer_word, make_word, counts_line, fault_line};
 
 use crate::counts::Counts;
@@ -7,16 +7,41 @@ use crate::fault::{Fault, Layer};
 use crate::make::Make;
 use std::fmt;
 
-// Each type has its own words, so each has an impl of its own where two look alike: one for both would be no plainer.
+// Each type has its own words, so each has impls of its own where two look alike: one for both would be no plainer.
+// A word is what a function answers, so its promise is an equation that holds of each call. Of `fmt` the library promises
+// what is written only where it answers Ok, since whoever is written to may refuse.
+impl Layer {
+    // The word that the layer goes by.
+    pub fn word(self) -> &'static str
+        ensures { result.now ≡ layer_word self }
+    {
+        match self {
+            Layer::Record => "record",
+            Layer::Sheet => "sheet",
+            Layer::Catalogue => "catalogue",
+        }
+    }
+}
+
+impl Make {
+    // The word that the make goes by.
+    pub fn word(self) -> &'static str
+        ensures { result.now ≡ make_word self }
+    {
+        match self {
+            Make::Fit => "fit",
+            Make::Bar => "bar",
+            Make::Load => "load",
+        }
+    }
+}
+
 impl fmt::Display for Layer {
     ghost output = { λ l. Some (layer_word l) };
 
     fn fmt<W: fmt::Write>(&self, f: &mut fmt::Formatter<W>) -> fmt::Result {
-        match self {
-            Layer::Record => write!(f, "record"),
-            Layer::Sheet => write!(f, "sheet"),
-            Layer::Catalogue => write!(f, "catalogue"),
-        }
+        let layer = self.word();
+        f.write_str(layer)
     }
 }
 
@@ -24,11 +49,8 @@ impl fmt::Display for Make {
     ghost output = { λ m. Some (make_word m) };
 
     fn fmt<W: fmt::Write>(&self, f: &mut fmt::Formatter<W>) -> fmt::Result {
-        match self {
-            Make::Fit => write!(f, "fit"),
-            Make::Bar => write!(f, "bar"),
-            Make::Load => write!(f, "load"),
-        }
+        let make = self.word();
+        f.write_str(make)
     }
 }
 

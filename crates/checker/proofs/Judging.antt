@@ -10,19 +10,19 @@ use Rattle.catalogue.specs.Verdict.{onward, follow, behind, content_from, conten
 use Rattle.catalogue.specs.Law.{Inner}
 use Rattle.checker.specs.Steps.{Shows, Steps}
 
-never : {X Y : Type 0} {f : Fault} {x : X} → ◌≡◌ {A = Result X Fault} (Err f) (Ok x) → Y
-never e = let z : ◌≡◌ {A = ℕ} 0 1 = cc in absurd (omega arith)
+err_is_no_ok : {X Y : Type 0} {f : Fault} {x : X} → ◌≡◌ {A = Result X Fault} (Err f) (Ok x) → Y
+err_is_no_ok e = let z : ◌≡◌ {A = ℕ} 0 1 = cc in absurd (omega arith)
 
 -- checks that pass for one answer pass for any, and give it
 module _ {X Y : Type 0} (at : ℕ) (x : X) where
   pub judged_ok : (cs : List Check) (z : X) (y : Result Y Fault) → judged at cs (Ok x) ≡ Ok z → (judged at cs y ≡ y) × (x ≡ z)
   judged_ok [] z y e = (refl, cc)
-  judged_ok ((n when true) ∷ cs) z y e = never e
+  judged_ok ((n when true) ∷ cs) z y e = err_is_no_ok e
   judged_ok ((n when false) ∷ cs) z y e = judged_ok cs z y e
 
   -- and a check that fails for one fails for any
   pub judged_err : (cs : List Check) (f : Fault) (y : Result Y Fault) → judged at cs (Ok x) ≡ Err f → judged at cs y ≡ Err f
-  judged_err [] f y e = never (sym e)
+  judged_err [] f y e = err_is_no_ok (sym e)
   judged_err ((n when true) ∷ cs) f y e = cc
   judged_err ((n when false) ∷ cs) f y e = judged_err cs f y e
 

@@ -9,12 +9,13 @@ use Rattle.checker.specs.declared.progress.Newest.{Newest as NewestSheet}
 use Rattle.catalogue.specs.Content.{Sheet, Weight, rows_in, loads_in, is_one, place, places}
 use Rattle.catalogue.specs.Records.{header_size}
 use Rattle.catalogue.proofs.Complete.{rows_append, loads_append}
+use Rattle.catalogue.proofs.Good.{with_row, with_weight}
 use Rattle.catalogue.specs.Checks.{listed, has_list, well_filled, well_sized, well_scoped, scope_of, well_weighed, weight_of, is_load, takes_rows, takes_weights, scope_in, rows_of, places_of, add_row, add_weight, fresh}
 use Rattle.checker.specs.Model.{Part, parts_from, head_len, row_read, weight_read, scope_read}
-use Rattle.checker.specs.Steps.{Newest, Held, loads_with, step_of, key_len, keys_of}
+use Rattle.checker.specs.Steps.{HoldsNewest, HoldsSheet, loads_with, step_of, key_len, keys_of}
 
 -- where there is no sheet yet, there is none after a slot
-pub still_none : (bs : List ℕ) (at to : ℕ) (m : Option NewestSheet) (o : Option Sheet) → is_some m ≡ false → Newest bs at m o → Newest bs to m o
+pub still_none : (bs : List ℕ) (at to : ℕ) (m : Option NewestSheet) (o : Option Sheet) → is_some m ≡ false → HoldsNewest bs at m o → HoldsNewest bs to m o
 still_none bs at to None None e h = tt
 still_none bs at to None (Some t) e h = h
 still_none bs at to (Some m) o e h = let z : ◌≡◌ {A = ℕ} 0 1 = cc in absurd (omega arith)
@@ -25,15 +26,8 @@ pub record RowMore (xs : List Sheet) (o : Option Sheet) (b : List ℕ) : Type 0 
   pub loads : loads_in (xs ++ listed (add_row b o)) ≡ loads_in (xs ++ listed o)
   pub rows : rows_in (xs ++ listed (add_row b o)) ≡ rows_in (xs ++ listed o) + 1
 
--- a sheet with one record more
-abbrev with_row : List ℕ → Sheet → Sheet
-with_row b t = record { make = t.make; scope = t.scope; «cap» = t.«cap»; rows = t.rows ++ take (length t.scope) b ∷ []; weights = t.weights }
-
-abbrev with_weight : List ℕ → Sheet → Sheet
-with_weight b t = record { make = t.make; scope = t.scope; «cap» = t.«cap»; rows = t.rows; weights = t.weights ++ weight_of b ∷ [] }
-
-row_more : (xs : List Sheet) (t : Sheet) (b : List ℕ) → RowMore xs (Some t) b
-row_more xs t b =
+counts_with_row : (xs : List Sheet) (t : Sheet) (b : List ℕ) → RowMore xs (Some t) b
+counts_with_row xs t b =
     record {
       sheets = simp length-append;
       loads = rw (loads_append, loads_append);
@@ -45,9 +39,9 @@ pub record WeightMore (xs : List Sheet) (o : Option Sheet) (b : List ℕ) : Type
   pub loads : loads_in (xs ++ listed (add_weight b o)) ≡ loads_in (xs ++ listed o)
   pub rows : rows_in (xs ++ listed (add_weight b o)) ≡ rows_in (xs ++ listed o)
 
-pub weight_more : (xs : List Sheet) (o : Option Sheet) (b : List ℕ) → WeightMore xs o b
-weight_more xs None b = record { sheets = refl; loads = refl; rows = refl }
-weight_more xs (Some t) b =
+pub counts_with_weight : (xs : List Sheet) (o : Option Sheet) (b : List ℕ) → WeightMore xs o b
+counts_with_weight xs None b = record { sheets = refl; loads = refl; rows = refl }
+counts_with_weight xs (Some t) b =
     record { sheets = simp length-append; loads = rw (loads_append, loads_append); rows = rw (rows_append, rows_append) }
 
 -- one record more of those that stand from a place on
@@ -62,28 +56,28 @@ part_push bs len step first n at size b e p short =
     parts_push bs len step first n ∙ ap (λ x. parts_from bs len step first n ++ x ∷ []) (ap (λ k. take len (drop k bs)) here ∙ sym (take-take len size (drop (at + 1) bs) short) ∙ ap (take len) (sym p.is))
 
 -- what would be where a test were both
-never : {X : Type 0} → false ≡ true → X
-never e = absurd (false≢true e)
+false_is_no_true : {X : Type 0} → false ≡ true → X
+false_is_no_true e = absurd (false≢true e)
 
-some_is : {a b : ℕ} → ◌≡◌ {A = Option ℕ} (Some a) (Some b) → a ≡ b
-some_is e = cc
+some_equal : {a b : ℕ} → ◌≡◌ {A = Option ℕ} (Some a) (Some b) → a ≡ b
+some_equal e = cc
 
 -- the places of weights with one more
-places_push : (ws : List Weight) (b : List ℕ) → 2 ≤ length b → places (ws ++ weight_of b ∷ []) ≡ places ws ++ take 2 b ∷ []
-places_push [] [] l = absurd (omega arith)
-places_push [] (x ∷ []) l = absurd (omega arith)
-places_push [] (x ∷ y ∷ b) l = refl
-places_push (w ∷ ws) b l = ap (λ r. place w ∷ r) (places_push ws b l)
+places_with_weight : (ws : List Weight) (b : List ℕ) → 2 ≤ length b → places (ws ++ weight_of b ∷ []) ≡ places ws ++ take 2 b ∷ []
+places_with_weight [] [] l = absurd (omega arith)
+places_with_weight [] (x ∷ []) l = absurd (omega arith)
+places_with_weight [] (x ∷ y ∷ b) l = refl
+places_with_weight (w ∷ ws) b l = ap (λ r. place w ∷ r) (places_with_weight ws b l)
 
 -- the newest sheet of what was said, where the state has one
 pub record Here (bs : List ℕ) (at : ℕ) (n : NewestSheet) (o : Option Sheet) : Type 0 where
   pub sheet : Sheet
   pub is : o ≡ Some sheet
-  pub held : Held bs at n sheet
+  pub held : HoldsSheet bs at n sheet
 
-pub here : (bs : List ℕ) (at : ℕ) (n : NewestSheet) (o : Option Sheet) → Newest bs at (Some n) o → Here bs at n o
-here bs at n None h = absurd h
-here bs at n (Some t) h = record { sheet = t; is = refl; held = h }
+pub newest_here : (bs : List ℕ) (at : ℕ) (n : NewestSheet) (o : Option Sheet) → HoldsNewest bs at (Some n) o → Here bs at n o
+newest_here bs at n None h = absurd h
+newest_here bs at n (Some t) h = record { sheet = t; is = refl; held = h }
 
 -- what a make that takes rows says of its records
 record OfRows (m : Make) : Type 0 where
@@ -94,7 +88,7 @@ record OfRows (m : Make) : Type 0 where
 of_rows : (m : Make) → is_load m ≡ false → OfRows m
 of_rows Fit e = record { step = refl; len = λ ss. refl; keys = λ t. refl }
 of_rows Bar e = record { step = refl; len = λ ss. refl; keys = λ t. refl }
-of_rows Load e = never (sym e)
+of_rows Load e = false_is_no_true (sym e)
 
 -- and one that takes weights
 record OfWeights (m : Make) : Type 0 where
@@ -103,8 +97,8 @@ record OfWeights (m : Make) : Type 0 where
   keys : (t : Sheet) → keys_of m t ≡ places t.weights
 
 of_weights : (m : Make) → is_load m ≡ true → OfWeights m
-of_weights Fit e = never e
-of_weights Bar e = never e
+of_weights Fit e = false_is_no_true e
+of_weights Bar e = false_is_no_true e
 of_weights Load e = record { step = refl; len = λ ss. refl; keys = λ t. refl }
 
 -- a search among the records before a place, where it begins and the size of the records are known by other terms
@@ -143,7 +137,7 @@ module _ (bs : List ℕ) (at : ℕ) (n : NewestSheet) where
         stood r key 5 (places h.sheet.weights) w.step (l ∙ sym (w.len h.sheet.scope)) (w.keys h.sheet) f ∙ ap (λ x. has_list x (places h.sheet.weights)) k ∙ ap (λ x. has_list (take 2 b) (places_of x)) (sym h.is)
 
   -- The newest sheet with one record more, which lies at the place.
-  grown : (t u : Sheet) (size : ℕ) (b : List ℕ) → Part bs at size b → key_len n.make t.scope ≤ size → u.make ≡ t.make → u.scope ≡ t.scope → keys_of n.make u ≡ keys_of n.make t ++ take (key_len n.make t.scope) b ∷ [] → Held bs at n t → Held bs (at + step_of n.make) n u
+  grown : (t u : Sheet) (size : ℕ) (b : List ℕ) → Part bs at size b → key_len n.make t.scope ≤ size → u.make ≡ t.make → u.scope ≡ t.scope → keys_of n.make u ≡ keys_of n.make t ++ take (key_len n.make t.scope) b ∷ [] → HoldsSheet bs at n t → HoldsSheet bs (at + step_of n.make) n u
   grown t u size b part short make same keys h =
       let m = n.make in
       record {
@@ -155,26 +149,26 @@ module _ (bs : List ℕ) (at : ℕ) (n : NewestSheet) where
             ap (λ ss. parts_from bs (key_len m ss) (step_of m) n.first (suc h.number)) same ∙ part_push bs (key_len m t.scope) (step_of m) n.first h.number at size b h.reaches part short ∙ ap (λ l. l ++ take (key_len m t.scope) b ∷ []) h.parts ∙ sym keys;
       }
 
-  pub row_newest : (o : Option Sheet) (b : List ℕ) → Newest bs at (Some n) o → is_load n.make ≡ false → Part bs at 8 b → length n.scope.now ≤ 8 → Newest bs (at + 9) (Some n) (add_row b o)
+  pub row_newest : (o : Option Sheet) (b : List ℕ) → HoldsNewest bs at (Some n) o → is_load n.make ≡ false → Part bs at 8 b → length n.scope.now ≤ 8 → HoldsNewest bs (at + 9) (Some n) (add_row b o)
   row_newest None b h e part l = absurd h
   row_newest (Some t) b h e part l =
       let w = of_rows n.make e in
-      subst (λ s. Held bs (at + s) n (with_row b t)) w.step
-      (grown t (with_row b t) 8 b part (subst (λ k. k ≤ 8) (ap length h.scope ∙ sym (w.len t.scope)) l) refl refl (w.keys (with_row b t) ∙ sym (ap (λ l. l ++ take (length t.scope) b ∷ []) (w.keys t)) ∙ ap (λ k. keys_of n.make t ++ take k b ∷ []) (sym (w.len t.scope))) h)
+      subst (λ s. HoldsSheet bs (at + s) n (with_row t (take (length t.scope) b))) w.step
+      (grown t (with_row t (take (length t.scope) b)) 8 b part (subst (λ k. k ≤ 8) (ap length h.scope ∙ sym (w.len t.scope)) l) refl refl (w.keys (with_row t (take (length t.scope) b)) ∙ sym (ap (λ l. l ++ take (length t.scope) b ∷ []) (w.keys t)) ∙ ap (λ k. keys_of n.make t ++ take k b ∷ []) (sym (w.len t.scope))) h)
 
-  pub weight_newest : (o : Option Sheet) (b : List ℕ) → Newest bs at (Some n) o → is_load n.make ≡ true → Part bs at 4 b → Newest bs (at + 5) (Some n) (add_weight b o)
+  pub weight_newest : (o : Option Sheet) (b : List ℕ) → HoldsNewest bs at (Some n) o → is_load n.make ≡ true → Part bs at 4 b → HoldsNewest bs (at + 5) (Some n) (add_weight b o)
   weight_newest None b h e part = absurd h
   weight_newest (Some t) b h e part =
       let w = of_weights n.make e in
-      subst (λ s. Held bs (at + s) n (with_weight b t)) w.step
-      (grown t (with_weight b t) 4 b part (subst (λ k. k ≤ 4) (sym (w.len t.scope)) (lit≤ tt)) refl refl (w.keys (with_weight b t) ∙ places_push t.weights b (omega (arith, part.long)) ∙ sym (ap (λ l. l ++ take 2 b ∷ []) (w.keys t)) ∙ ap (λ k. keys_of n.make t ++ take k b ∷ []) (sym (w.len t.scope))) h)
+      subst (λ s. HoldsSheet bs (at + s) n (with_weight t (weight_of b))) w.step
+      (grown t (with_weight t (weight_of b)) 4 b part (subst (λ k. k ≤ 4) (sym (w.len t.scope)) (lit≤ tt)) refl refl (w.keys (with_weight t (weight_of b)) ∙ places_with_weight t.weights b (omega (arith, part.long)) ∙ sym (ap (λ l. l ++ take 2 b ∷ []) (w.keys t)) ∙ ap (λ k. keys_of n.make t ++ take k b ∷ []) (sym (w.len t.scope))) h)
 
   -- the newest sheet is there where rows may follow
   pub row_counts : (xs : List Sheet) (o : Option Sheet) (b : List ℕ) → Here bs at n o → RowMore xs o b
-  row_counts xs o b h = subst (λ x. RowMore xs x b) (sym h.is) (row_more xs h.sheet b)
+  row_counts xs o b h = subst (λ x. RowMore xs x b) (sym h.is) (counts_with_row xs h.sheet b)
 
 -- A header makes its sheet the newest.
-pub head_newest : (bs : List ℕ) (at : ℕ) (n : NewestSheet) (b : List ℕ) → n.scope.now ≡ (fresh n.make b).scope → n.first ≡ at → Newest bs at (Some n) (Some (fresh n.make b))
+pub head_newest : (bs : List ℕ) (at : ℕ) (n : NewestSheet) (b : List ℕ) → n.scope.now ≡ (fresh n.make b).scope → n.first ≡ at → HoldsNewest bs at (Some n) (Some (fresh n.make b))
 head_newest bs at n b scope first =
     record { make = refl; scope = scope; number = 0; reaches = omega (arith, mul-zero (step_of n.make)); parts = no_keys n.make }
   where
@@ -184,20 +178,20 @@ head_newest bs at n b scope first =
     no_keys Load = refl
 
 -- how many load sheets there are with one sheet more
-pub loads_with_lem : (m : Make) (n k : ℕ) → Some k ≡ loads_with n m → (k ≡ n + is_one m) × ((is_load m && leb 8 n) ≡ false)
-loads_with_lem Fit n k e = (omega (arith, some_is e), refl)
-loads_with_lem Bar n k e = (omega (arith, some_is e), refl)
-loads_with_lem Load n k e = (grind (arith, nat_tests), grind (arith, nat_tests))
+pub loads_counted : (m : Make) (n k : ℕ) → Some k ≡ loads_with n m → (k ≡ n + is_one m) × ((is_load m && leb 8 n) ≡ false)
+loads_counted Fit n k e = (omega (arith, some_equal e), refl)
+loads_counted Bar n k e = (omega (arith, some_equal e), refl)
+loads_counted Load n k e = (grind (arith, nat_tests), grind (arith, nat_tests))
 
 -- What a reading that went well tells.
-pub row_read_lem : (at : ℕ) (os ss b key : List ℕ) → Ok key ≡ row_read at os ss b → (well_filled os ss b ≡ true) × (key ≡ take (length ss) b)
-row_read_lem at os ss b key e = (grind (arith, nat_tests), grind (arith, nat_tests))
+pub row_read_passes : (at : ℕ) (os ss b key : List ℕ) → Ok key ≡ row_read at os ss b → (well_filled os ss b ≡ true) × (key ≡ take (length ss) b)
+row_read_passes at os ss b key e = (grind (arith, nat_tests), grind (arith, nat_tests))
 
-pub weight_read_lem : (at : ℕ) (os ss b key : List ℕ) → Ok key ≡ weight_read at os ss b → (well_weighed os ss (weight_of b) ≡ true) × (key ≡ take 2 b)
-weight_read_lem at os ss b key e = (grind (arith, nat_tests), grind (arith, nat_tests))
+pub weight_read_passes : (at : ℕ) (os ss b key : List ℕ) → Ok key ≡ weight_read at os ss b → (well_weighed os ss (weight_of b) ≡ true) × (key ≡ take 2 b)
+weight_read_passes at os ss b key e = (grind (arith, nat_tests), grind (arith, nat_tests))
 
-pub scope_read_lem : (at n : ℕ) (b ss : List ℕ) → Ok ss ≡ scope_read at n b → (well_sized b ≡ true) × (well_scoped n (scope_of b) ≡ true) × (ss ≡ scope_of b)
-scope_read_lem at n b ss e = (grind (arith, nat_tests), grind (arith, nat_tests), grind (arith, nat_tests))
+pub scope_read_passes : (at n : ℕ) (b ss : List ℕ) → Ok ss ≡ scope_read at n b → (well_sized b ≡ true) × (well_scoped n (scope_of b) ≡ true) × (ss ≡ scope_of b)
+scope_read_passes at n b ss e = (grind (arith, nat_tests), grind (arith, nat_tests), grind (arith, nat_tests))
 
 -- of the makes, load alone takes weights
 pub load_is : (m : Make) → m ≡ Load → is_load m ≡ true

@@ -22,18 +22,18 @@ has_is x (y ∷ xs) = let e = has_is x xs in grind (arith, nat_tests)
 
 -- a scope by its first slot and the others
 module _ (n x : ℕ) (xs left : List ℕ) (w : Bool) (is : left ≡ x ∷ xs) (all-of : well_scoped n left ≡ w) where
-  here : (ltb x n && (not (has x xs) && well_scoped n xs)) ≡ w
-  here = ap (well_scoped n) (sym is) ∙ all-of
+  scoped_here : (ltb x n && (not (has x xs) && well_scoped n xs)) ≡ w
+  scoped_here = ap (well_scoped n) (sym is) ∙ all-of
 
   pub scoped_out : n ≤ x → false ≡ w
-  scoped_out h = let e = here in grind (arith, nat_tests)
+  scoped_out h = let e = scoped_here in grind (arith, nat_tests)
 
   module _ (r : Bool) (named : r ≡ list_any (λ y. eqb y x) xs) where
     pub scoped_twice : r ≡ true → false ≡ w
-    scoped_twice t = let e = here in let f : has x xs ≡ true = sym (has_is x xs) ∙ sym named ∙ t in grind (arith, nat_tests)
+    scoped_twice t = let e = scoped_here in let f : has x xs ≡ true = sym (has_is x xs) ∙ sym named ∙ t in grind (arith, nat_tests)
 
     pub scoped_on : x < n → r ≡ false → well_scoped n xs ≡ w
-    scoped_on h t = let e = here in let f : has x xs ≡ false = sym (has_is x xs) ∙ sym named ∙ t in grind (arith, nat_tests)
+    scoped_on h t = let e = scoped_here in let f : has x xs ≡ false = sym (has_is x xs) ∙ sym named ∙ t in grind (arith, nat_tests)
 
 -- a row that is filled has a byte for each slot
 pub filled_long : (os ss xs : List ℕ) → well_filled os ss xs ≡ true → length ss ≤ length xs

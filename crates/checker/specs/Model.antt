@@ -48,12 +48,12 @@ head_len Fit = 9
 head_len Bar = 9
 head_len Load = 13
 
-abbrev pub Lies : List ℕ → ℕ → Rec → Type 0
-Lies bs at (slot b) = Part bs at 1 b
-Lies bs at (header m b) = Part bs at (head_len m) b
-Lies bs at (row b) = Part bs at 8 b
-Lies bs at (weight b) = Part bs at 4 b
-Lies bs at end = at + 1 ≤ length bs
+abbrev pub BodyLies : List ℕ → ℕ → Rec → Type 0
+BodyLies bs at (slot b) = Part bs at 1 b
+BodyLies bs at (header m b) = Part bs at (head_len m) b
+BodyLies bs at (row b) = Part bs at 8 b
+BodyLies bs at (weight b) = Part bs at 4 b
+BodyLies bs at end = at + 1 ≤ length bs
 
 -- what the sheet layer reads of a body: check 6, checks 7 and 8, check 9, check 11
 abbrev pub options_in : ℕ → List ℕ → Result ℕ Fault

@@ -34,18 +34,18 @@ loads_with n Bar = Some n
 loads_with n Load = cond (nat_le 8 n) None (Some (n + 1))
 
 -- the newest sheet, whose records stand from its first up to a place
-pub record Held (bs : List ℕ) (at : ℕ) (n : NewestSheet) (t : Sheet) : Type 0 where
+pub record HoldsSheet (bs : List ℕ) (at : ℕ) (n : NewestSheet) (t : Sheet) : Type 0 where
   pub make : t.make ≡ n.make
   pub scope : n.scope.now ≡ t.scope
   pub number : ℕ
   pub reaches : n.first + step_of n.make * number ≡ at
   pub parts : parts_from bs (key_len n.make t.scope) (step_of n.make) n.first number ≡ keys_of n.make t
 
-abbrev pub Newest : List ℕ → ℕ → Option NewestSheet → Option Sheet → Type 0
-Newest bs at None None = Unit {0}
-Newest bs at None (Some t) = ⊥
-Newest bs at (Some n) None = ⊥
-Newest bs at (Some n) (Some t) = Held bs at n t
+abbrev pub HoldsNewest : List ℕ → ℕ → Option NewestSheet → Option Sheet → Type 0
+HoldsNewest bs at None None = Unit {0}
+HoldsNewest bs at None (Some t) = ⊥
+HoldsNewest bs at (Some n) None = ⊥
+HoldsNewest bs at (Some n) (Some t) = HoldsSheet bs at n t
 
 -- the state shows what the records before a place have said
 pub record Shows (bs : List ℕ) (at : ℕ) (p : Progress) (s : Said) : Type 0 where
@@ -53,7 +53,7 @@ pub record Shows (bs : List ℕ) (at : ℕ) (p : Progress) (s : Said) : Type 0 w
   pub sheets : p.sheets ≡ length (sheets_of s)
   pub loads : p.loads ≡ loads_in (sheets_of s)
   pub rows : p.rows ≡ rows_in (sheets_of s)
-  pub newest : Newest bs at p.newest s.newest
+  pub newest : HoldsNewest bs at p.newest s.newest
 
 -- a step answers what the record's checks say, and then shows one record more
 pub record Stepped (bs : List ℕ) (at : ℕ) (x : Rec) (r : Result (Unit {0}) Fault) (q : Progress) (s : Said) : Type 0 where

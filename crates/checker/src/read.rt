@@ -1,7 +1,7 @@
 // The record layer: reads one record, or says why there is none.
 ghost use Rattle.std.specs.Prelude.{◌≡◌, IfOk};
 ghost use Rattle.catalogue.specs.Records.{read_at};
-ghost use Rattle.checker.specs.Model.{read_as, record_of, Lies};
+ghost use Rattle.checker.specs.Model.{read_as, record_of, BodyLies};
 
 use crate::checks::Check;
 use crate::record::Record;
@@ -11,7 +11,7 @@ use catalogue::kind::Kind;
 // The record whose first byte is at a place. Its body is a part of the input.
 pub(crate) fn read<'a>(bytes: &'a [u8], at: usize) -> Result<Record<'a>, Fault>
     ensures is { read_as result ≡ read_at bytes.now at }
-    ensures lies { IfOk result (λ x. Lies bytes.now at (record_of x)) }
+    ensures lies { IfOk result (λ x. BodyLies bytes.now at (record_of x)) }
 {
     if at >= bytes.len() {
         return Err(Check::RecordLeft.at(at));

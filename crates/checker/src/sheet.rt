@@ -3,7 +3,7 @@ ghost use Rattle.std.specs.Prelude.{◌≡◌, ℕ, ◌+◌, ◌*◌, ◌<◌, �
 ghost use Rattle.std.specs.List.{starts_with};
 ghost use Rattle.catalogue.specs.Records.{read_at};
 ghost use Rattle.catalogue.specs.Checks.{all, unused, has, has_list, well_scoped, well_filled, well_weighed, weight_of, in_range};
-ghost use Rattle.checker.specs.Model.{entered_as, entry_of, Lies, parts_from, options_in, scope_read, row_read, weight_read, held_by};
+ghost use Rattle.checker.specs.Model.{entered_as, entry_of, BodyLies, parts_from, options_in, scope_read, row_read, weight_read, held_by};
 
 use crate::checks::Check;
 use crate::entry::Entry;
@@ -21,7 +21,7 @@ const HEAVIEST: i16 = 30_000;
 // The record at a place, as the sheets see it.
 pub(crate) fn entry<'a>(bytes: &'a [u8], at: usize) -> Result<Entry<'a>, Fault>
     ensures is { entered_as result ≡ read_at bytes.now at }
-    ensures lies { IfOk result (λ x. Lies bytes.now at (entry_of x)) }
+    ensures lies { IfOk result (λ x. BodyLies bytes.now at (entry_of x)) }
 {
     let record = read(bytes, at)?;
     Ok(Entry::from(record))
@@ -31,7 +31,7 @@ pub(crate) fn entry<'a>(bytes: &'a [u8], at: usize) -> Result<Entry<'a>, Fault>
 // project each layer answers whole faults, which go up by `?`.
 
 // Check 6: how many options a slot has.
-pub(crate) fn options_of(body: &[u8], at: usize) -> Result<u8, Fault>
+pub(crate) fn checked_options(body: &[u8], at: usize) -> Result<u8, Fault>
     requires { length body.now ≡ 1 }
     ensures { result ≡ options_in at body.now }
 {
@@ -64,7 +64,7 @@ fn well_scoped(slots: u8, scope: &[u8]) -> bool
 }
 
 // Checks 7 and 8: the slots that a header names, a part of its body.
-pub(crate) fn scope_of<'a>(body: &'a [u8], slots: u8, at: usize) -> Result<&'a [u8], Fault>
+pub(crate) fn checked_scope<'a>(body: &'a [u8], slots: u8, at: usize) -> Result<&'a [u8], Fault>
     requires { 9 ≤ length body.now }
     ensures { held_by result ≡ scope_read at slots body.now }
 {
@@ -144,7 +144,7 @@ impl<'a> Frame<'a> {
     }
 
     // Check 9: the options that a row has, a part of its body.
-    pub(crate) fn row_of<'b>(&self, body: &'b [u8], at: usize) -> Result<&'b [u8], Fault>
+    pub(crate) fn checked_row<'b>(&self, body: &'b [u8], at: usize) -> Result<&'b [u8], Fault>
         ensures is { held_by result ≡ row_read at self.now.options.now self.now.scope.now body.now }
         ensures long { IfOk result (λ key. length key.now ≡ length self.now.scope.now) }
         ensures short { IfOk result (λ key. length key.now ≤ length body.now) }
@@ -167,7 +167,7 @@ impl<'a> Frame<'a> {
     }
 
     // Check 11: what a weight is of, its position and option, a part of its body.
-    pub(crate) fn weight_of<'b>(&self, body: &'b [u8], at: usize) -> Result<&'b [u8], Fault>
+    pub(crate) fn checked_weight<'b>(&self, body: &'b [u8], at: usize) -> Result<&'b [u8], Fault>
         requires { length body.now ≡ 4 }
         ensures is { held_by result ≡ weight_read at self.now.options.now self.now.scope.now body.now }
         ensures long { IfOk result (λ key. length key.now ≡ 2) }

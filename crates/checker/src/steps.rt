@@ -8,7 +8,7 @@ ghost use Rattle.checker.specs.Steps.{Shows, Steps, loads_with};
 
 use crate::checks::Check;
 use crate::progress::{Newest, Progress};
-use crate::sheet::{Frame, options_of, scope_of, stood_before};
+use crate::sheet::{Frame, checked_options, checked_scope, stood_before};
 use catalogue::counts::Counts;
 use catalogue::fault::Fault;
 use catalogue::kind::Kind;
@@ -61,7 +61,7 @@ impl<'a> Progress<'a> {
         if self.slots >= SLOTS {
             return Err(Check::WithinLimit.at(at));
         }
-        let n = options_of(body, at)?;
+        let n = checked_options(body, at)?;
         self.options[usize::from(self.slots)] = n;
         self.slots += 1;
         Ok(())
@@ -79,7 +79,7 @@ impl<'a> Progress<'a> {
         let Some(loads) = loads_with(self.loads, make) else {
             return Err(Check::WithinLimit.at(at));
         };
-        let scope = scope_of(body, self.slots, at)?;
+        let scope = checked_scope(body, self.slots, at)?;
         self.sheets += 1;
         self.loads = loads;
         let first = at + 1 + body.len();
@@ -100,7 +100,7 @@ impl<'a> Progress<'a> {
         if self.rows >= ROWS {
             return Err(Check::WithinLimit.at(at));
         }
-        let key = self.frame(sheet.scope).row_of(body, at)?;
+        let key = self.frame(sheet.scope).checked_row(body, at)?;
         if stood_before(bytes, sheet.first, at, Kind::Row.len(), key) {
             return Err(Check::RowOnce.at(at));
         }
@@ -118,7 +118,7 @@ impl<'a> Progress<'a> {
             Some(sheet) if sheet.make == Make::Load => sheet,
             _ => return Err(Check::InPlace.at(at)),
         };
-        let key = self.frame(sheet.scope).weight_of(body, at)?;
+        let key = self.frame(sheet.scope).checked_weight(body, at)?;
         if stood_before(bytes, sheet.first, at, Kind::Weight.len(), key) {
             return Err(Check::WeightOnce.at(at));
         }

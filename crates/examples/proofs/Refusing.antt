@@ -4,7 +4,7 @@ use lib.Dec.{not_T, nleb→lt}
 use Rattle.subject.specs.Problem.{Problem}
 use Rattle.subject.specs.Decisions.{Decision, Open, Largest, tries}
 use Rattle.subject.specs.Logs.{Call, try, strike, back, begin, end, look, next, Refuses}
-use Rattle.subject.specs.Logs.{try_slot, try_option_lem, try_shut, try_full, strike_slot, strike_option, strike_shut, back_none, look_slot, next_short}
+use Rattle.subject.specs.Logs.{try_no_slot, try_no_option, try_shut, try_full, strike_no_slot, strike_no_option, strike_shut, back_none, look_no_slot, next_short}
 use Rattle.subject.proofs.Standing.{free_try, free_strike, free_back, free_look, free_next, free_begin, free_end}
 use Rattle.examples.proofs.Tests.{eqb_is, ltb_is, leb_is, chosen}
 use Rattle.examples.proofs.Reckoner.{opens, settled, finished}
@@ -46,9 +46,9 @@ module _ (P : Problem) (D : List Decision) (big : Largest P D (opens (settled P 
   pub ruled : (c : Call) → Ruled P D c (refusal P D c)
   unfolding refusal
   ruled (try s o) =
-      chosen (Ruled P D (try s o)) (leb (length P.sizes) s) _ _ (λ t. barred (try_slot ((leb_is _ s).0 t)))
+      chosen (Ruled P D (try s o)) (leb (length P.sizes) s) _ _ (λ t. barred (try_no_slot ((leb_is _ s).0 t)))
       (λ f.
-      chosen (Ruled P D (try s o)) (leb (get_or P.sizes s 0) o) _ _ (λ t. barred (try_option_lem (over _ s f) ((leb_is _ o).0 t)))
+      chosen (Ruled P D (try s o)) (leb (get_or P.sizes s 0) o) _ _ (λ t. barred (try_no_option (over _ s f) ((leb_is _ o).0 t)))
       (λ g.
       chosen (Ruled P D (try s o)) (opens (settled P D) s o) _ _
       (λ t.
@@ -56,9 +56,9 @@ module _ (P : Problem) (D : List Decision) (big : Largest P D (opens (settled P 
       (λ u. free ((big s o).0 t, over 16 (tries D) u)))
       (λ t. barred (try_shut (over _ s f, over _ o g) (λ w. t ((big s o).1 w))))))
   ruled (strike s o) =
-      chosen (Ruled P D (strike s o)) (leb (length P.sizes) s) _ _ (λ t. barred (strike_slot ((leb_is _ s).0 t)))
+      chosen (Ruled P D (strike s o)) (leb (length P.sizes) s) _ _ (λ t. barred (strike_no_slot ((leb_is _ s).0 t)))
       (λ f.
-      chosen (Ruled P D (strike s o)) (leb (get_or P.sizes s 0) o) _ _ (λ t. barred (strike_option (over _ s f) ((leb_is _ o).0 t)))
+      chosen (Ruled P D (strike s o)) (leb (get_or P.sizes s 0) o) _ _ (λ t. barred (strike_no_option (over _ s f) ((leb_is _ o).0 t)))
       (λ g.
       chosen (Ruled P D (strike s o)) (opens (settled P D) s o) _ _ (λ t. free ((big s o).0 t))
       (λ t. barred (strike_shut (over _ s f, over _ o g) (λ w. t ((big s o).1 w))))))
@@ -68,7 +68,7 @@ module _ (P : Problem) (D : List Decision) (big : Largest P D (opens (settled P 
   ruled begin = free tt
   ruled end = free tt
   ruled (look s) =
-      chosen (Ruled P D (look s)) (leb (length P.sizes) s) _ _ (λ t. barred (look_slot ((leb_is _ s).0 t)))
+      chosen (Ruled P D (look s)) (leb (length P.sizes) s) _ _ (λ t. barred (look_no_slot ((leb_is _ s).0 t)))
       (λ f. free (over _ s f))
   ruled (next k) =
       chosen (Ruled P D (next k)) (ltb k (length P.sizes)) _ _ (λ t. barred (next_short ((ltb_is k _).0 t)))

@@ -4,7 +4,7 @@ use mathlib.Core.Bool.{beq}
 use Rattle.catalogue.specs.Checks.{same}
 use Rattle.subject.specs.Problem.{Problem}
 use Rattle.subject.specs.Boxes.{opened}
-use Rattle.subject.specs.Decisions.{Decision, tried, struck, Counts, Largest, undone}
+use Rattle.subject.specs.Decisions.{Decision, tried, struck, OpenCount, Largest, undone}
 use Rattle.subject.specs.Plans.{Plan, Meets, Before, Behind}
 use Rattle.subject.specs.Logs.{Call, try, strike, back, begin, end, look, next, Answer, calls, decided, walking, given, Standing, Reckoned}
 use Rattle.subject.specs.Logs.{refuses, try_done, strike_done, back_done, look_done, begin_done, end_done, next_plan, next_none}
@@ -57,7 +57,7 @@ module _ (P : Problem) (D : List Decision) (G : List Plan) where
       big : Largest P D (opens (settled P D))
       big = settled_largest P D t
 
-      counts : (E : List Decision) → T (finished P E) → Counts P E (opened (opens (settled P E)))
+      counts : (E : List Decision) → T (finished P E) → OpenCount P E (opened (opens (settled P E)))
       counts E w = (opens (settled P E), settled_largest P E w, refl)
 
       go : (d : Call) → T (finished P (decided d D)) → T (checked P D G d) → ((e : Call) → Ruled P D e (refusal P D e)) → Reckoned P D G d (answer P D G d)

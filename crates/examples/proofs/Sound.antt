@@ -2,7 +2,7 @@
 use Rattle.std.proofs.Common.{◌≡◌, ℕ, suc, T, List, [], subst}
 use Rattle.subject.specs.Problem.{Problem}
 use Rattle.subject.specs.Boxes.{opened}
-use Rattle.subject.specs.Decisions.{Decision, Counts}
+use Rattle.subject.specs.Decisions.{Decision, OpenCount}
 use Rattle.subject.specs.Plans.{Plan}
 use Rattle.subject.specs.Logs.{Call, Log, calls, Refuses, Standing}
 use Rattle.subject.specs.Law.{Lawful}
@@ -27,7 +27,7 @@ pub data Claim : Type 0 where
   logging : Log → Claim
 
 abbrev pub Says : Problem → Claim → Type 0
-Says P (counting D n) = Counts P D n
+Says P (counting D n) = OpenCount P D n
 Says P (looking D shown) = Looks P D shown
 Says P (planning D ps) = Plans P D ps
 Says P (drying D) = Dry P D

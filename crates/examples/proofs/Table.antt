@@ -46,10 +46,10 @@ sheet_cases : SheetCases
 unfolding reckoning problem_in sheets_of slots_in
 sheet_cases =
     record {
-      nothing_fits_lem = case nothing_fits refl (drying []) (tt, refl);
-      nothing_barred_lem = (case nothing_barred refl (counting [] 4) (tt, refl), case nothing_barred refl (looking [] (3 ∷ 3 ∷ [])) (tt, tt));
-      first_barred_lem = (case first_barred refl (counting [] 1) (tt, refl), case first_barred refl (looking [] (2 ∷ [])) (tt, tt));
-      both_barred_lem = case both_barred refl (drying []) (tt, refl);
+      fit_without_rows = case nothing_fits refl (drying []) (tt, refl);
+      bar_without_rows = (case nothing_barred refl (counting [] 4) (tt, refl), case nothing_barred refl (looking [] (3 ∷ 3 ∷ [])) (tt, tt));
+      bars_one = (case first_barred refl (counting [] 1) (tt, refl), case first_barred refl (looking [] (2 ∷ [])) (tt, tt));
+      bars_both = case both_barred refl (drying []) (tt, refl);
       within_cap = (case (loaded (pos 400)) refl (counting [] 3) (tt, refl), case (loaded (pos 400)) refl (looking [] (3 ∷ 2 ∷ [])) (tt, tt));
       beyond_cap = (case (loaded (pos 399)) refl (counting [] 2) (tt, refl), case (loaded (pos 399)) refl (looking [] (1 ∷ 2 ∷ [])) (tt, tt));
     }
@@ -59,8 +59,8 @@ unfolding reckoning problem_in sheets_of slots_in
 dry_cases =
     record {
       always = λ P D s o f r. try_shut r (f s o);
-      nothing_fits_lem = case nothing_fits refl (refusing [] (try 1 1) 22) (tt, refl);
-      both_barred_lem = case both_barred refl (refusing [] (try 0 0) 22) (tt, refl);
+      fit_without_rows = case nothing_fits refl (refusing [] (try 1 1) 22) (tt, refl);
+      bars_both = case both_barred refl (refusing [] (try 0 0) 22) (tt, refl);
     }
 
 pub worked_examples_lem : WorkedExamples

@@ -3,7 +3,7 @@ use Rattle.std.proofs.Common.{◌≡◌, ℕ, zero, suc, ◌+◌, ◌-◌, ◌<�
 use Rattle.std.proofs.lemmas.Bool.{cases_eq}
 use Rattle.subject.specs.Problem.{Problem}
 use Rattle.subject.specs.Boxes.{Box, Inside}
-use Rattle.binder.specs.Meaning.{Binding, SameSheets, Alike, Noted, Undone}
+use Rattle.binder.specs.Meaning.{Binding, SameSheets, SameLists, Noted, Undone}
 use Rattle.settle.specs.Keeping.{Has, Keeps, Framed}
 use Rattle.settle.proofs.Keeping.{keeps_less, keeps_same}
 use Rattle.explore.specs.Rewound.{Rewound}
@@ -95,7 +95,7 @@ module _ (P : Problem) (X : Box) (m : Binding) where
   levels_split K J i C n k o was framed keeps noted below rest first =
       let at : k.marks ≡ m.marks + suc i = framed.marks ∙ was.marks in
       let more : o.marks ≡ k.marks + 1 = noted.marks in
-      let older : (j s : ℕ) → j < k.marks → Alike (o.marked j s) (n.marked j s) = λ j s h l. noted.older j s h l ∙ framed.marked j s l in
+      let older : (j s : ℕ) → j < k.marks → SameLists (o.marked j s) (n.marked j s) = λ j s h l. noted.older j s h l ∙ framed.marked j s l in
       record {
         marks = omega arith;
         older = λ j s h l. older j s (omega arith) l ∙ was.older j s h l;

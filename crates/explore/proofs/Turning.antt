@@ -16,7 +16,7 @@ use Rattle.settle.specs.Keeping.{Has, Keeps, Based}
 use Rattle.settle.specs.Reach.{Covers, Resting}
 use Rattle.settle.specs.Settled.{Settled}
 use Rattle.settle.proofs.Scopes.{if_lt, if_not_lt}
-use Rattle.settle.proofs.Keeping.{inside_cells, keeps_less, backed_largest, backed_largest_in, based_same, covers_has, resting_based}
+use Rattle.settle.proofs.Keeping.{inside_cells, opens_low, keeps_less, backed_largest, backed_largest_in, based_same, covers_has, resting_based}
 use Rattle.explore.specs.Pending.{Lies, Pending}
 use Rattle.explore.specs.Narrow.{Sole}
 use Rattle.explore.specs.Rewound.{Rewound}
@@ -31,15 +31,15 @@ use Rattle.explore.proofs.Stacking.{sole_from}
 
 -- An exploration begins: the binder marks its level, and the one box to be explored is the largest.
 pub exploring_begins : (P : Problem) (D : List Decision) (X : Box) (m n : Binding) (K : ℕ → Box) (A : ℕ → ℕ) → 0 < length P.sizes → m.marks + 49 ≤ 72
-    → Has P m → Keeps P X m.kept → Largest P D X → Noted m n → K 0 ≡ X → Exploring P D [] X m K A 1 n
-exploring_begins P D X m n K A some room has keeps big noted e = record {
+    → Has P m → Keeps P X m.kept → Largest P D X → ((s o : ℕ) → T (X s o) → s < 48) → Noted m n → K 0 ≡ X → Exploring P D [] X m K A 1 n
+exploring_begins P D X m n K A some room has keeps big low noted e = record {
   some = some;
   largest = big;
   room = room;
   has = has_sheets P m n has noted.sheets;
   inside = λ i h s o t. let z : i ≡ 0 = omega arith in subst (λ Y. T (Y s o)) (ap K z ∙ e) t;
   bases = λ i. X;
-  based = λ i h. let z : i ≡ 0 = omega arith in subst (λ Y. Based P X Y (A i)) (sym (ap K z ∙ e)) (based_same P X (A i) (backed_largest P D X big));
+  based = λ i h. let z : i ≡ 0 = omega arith in subst (λ Y. Based P X Y (A i)) (sym (ap K z ∙ e)) (based_same P X (A i) (backed_largest P D X big) low);
   levels = levels_begin P X m (λ i. X) n refl keeps noted;
   pending = pending_one P D X K big e;
 }
@@ -60,7 +60,7 @@ exploring_over P D G X m K A top n e was q mq b = let w = (was.pending.left q mq
 -- A turn: the uppermost box, number i, stands in the cells b and was settled to c, by which the binder n became k. After
 -- the turn the binder is o, and the boxes J below t are to be explored.
 module _ (K J : ℕ → Box) (A B : ℕ → ℕ) (masks : List ℕ) (top i t : ℕ) (n k o : Binding) (slots : ℕ) (b c : List ℕ) (high : top ≡ suc i) (next : opens b ≡ K i)
-    (done : Settled n k masks (A i) slots b c) (P : Problem) (D : List Decision) (G : List Plan) (X : Box) (m : Binding) (size : length P.sizes ≡ slots) (covers : Covers P.sheets P.scope masks)
+    (done : Settled n k masks (A i) slots b c) (long : length c ≡ 48) (P : Problem) (D : List Decision) (G : List Plan) (X : Box) (m : Binding) (size : length P.sizes ≡ slots) (covers : Covers P.sheets P.scope masks)
     (before : Exploring P D G X m K A top n) where
   was : Exploring P D G X m K A (suc i) n
   was = subst (λ z. Exploring P D G X m K A z n) high before
@@ -116,9 +116,9 @@ module _ (K J : ℕ → Box) (A B : ℕ → ℕ) (masks : List ℕ) (top i t : �
         shut (record { option = get_or q 0 0; is = (opens_is c 0 (get_or q 0 0)).0 z })))
 
     -- each slot has one open option
-    pub turn_found : Proper n → Some c 0 → length c ≡ 48 → ((s : ℕ) → Two c s → ⊥) → (p : List ℕ) → Laid c p 48
+    pub turn_found : Proper n → Some c 0 → ((s : ℕ) → Two c s → ⊥) → (p : List ℕ) → Laid c p 48
         → First P D G (take (length P.sizes) p) × Exploring P D (take (length P.sizes) p ∷ G) X m J B t o
-    turn_found proper some long loose p laid =
+    turn_found proper some loose p laid =
         let here : T (opens c 0 some.option) = (opens_is c 0 some.option).1 some.is in
         let big = largest_c (placed_at 0 some.option here) in
         let sup = settled_supported P (K i) (opens c) big 0 some.option here in
@@ -162,6 +162,7 @@ module _ (K J : ℕ → Box) (A B : ℕ → ℕ) (masks : List ℕ) (top i t : �
     inside = λ s q t. ((cut.rest s q).0 t).0;
     apart = λ s q ne t. (cut.rest s q).1 (t, λ e. ne (subst (Bit (B i)) (sym e.0) cut.lost_rest));
     backed = backed_largest_in P (K i) (opens c) big;
+    low = opens_low c long;
   }
 
   based_first : LargestIn P (K i) (opens c) → (cut : Split K J A B i (opens c)) → Based P (opens c) (J (suc i)) (B (suc i))
@@ -169,6 +170,7 @@ module _ (K J : ℕ → Box) (A B : ℕ → ℕ) (masks : List ℕ) (top i t : �
     inside = λ s q t. ((cut.first s q).0 t).0;
     apart = λ s q ne t. (cut.first s q).1 (t, λ e. ne (subst (Bit (B (suc i))) (sym e.0) cut.lost_first));
     backed = backed_largest_in P (K i) (opens c) big;
+    low = opens_low c long;
   }
 
   -- a slot has several

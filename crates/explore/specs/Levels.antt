@@ -2,7 +2,7 @@
 use Rattle.std.specs.Prelude.{◌≡◌, ℕ, zero, suc, ◌+◌, ◌<◌}
 use Rattle.subject.specs.Problem.{Problem}
 use Rattle.subject.specs.Boxes.{Box}
-use Rattle.binder.specs.Meaning.{Binding, Alike}
+use Rattle.binder.specs.Meaning.{Binding, SameLists}
 use Rattle.settle.specs.Keeping.{Has, Keeps}
 
 -- the boxes of an exploration by level: the box X that it began with, and then those that are still to be explored are
@@ -16,7 +16,7 @@ level X K (suc j) = K j
 -- as they matter in the uppermost.
 pub record Levels (P : Problem) (X : Box) (m : Binding) (K : ℕ → Box) (top : ℕ) (n : Binding) : Type 0 where
   pub marks : n.marks ≡ m.marks + top
-  pub older : (i s : ℕ) → i < m.marks → Alike (n.marked i s) (m.marked i s)
+  pub older : (i s : ℕ) → i < m.marks → SameLists (n.marked i s) (m.marked i s)
   pub marked : (j : ℕ) → j < top → Keeps P (level X K j) (n.marked (m.marks + j))
   pub keeps : Keeps P (level X K top) n.kept
 
@@ -24,5 +24,5 @@ pub record Levels (P : Problem) (X : Box) (m : Binding) (K : ℕ → Box) (top :
 pub record Returned (P : Problem) (X : Box) (m n : Binding) : Type 0 where
   pub has : Has P n
   pub marks : n.marks ≡ m.marks
-  pub older : (i s : ℕ) → i < m.marks → Alike (n.marked i s) (m.marked i s)
+  pub older : (i s : ℕ) → i < m.marks → SameLists (n.marked i s) (m.marked i s)
   pub keeps : Keeps P X n.kept

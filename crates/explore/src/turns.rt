@@ -9,6 +9,7 @@ ghost use Rattle.explore.specs.Levels.{Returned};
 ghost use Rattle.explore.specs.Outcomes.{IfEmpty, Leaves, Long, Turned};
 ghost use Rattle.explore.specs.Rewound.{Rewound};
 ghost use Rattle.explore.specs.Exploring.{Exploring};
+ghost use Rattle.explore.specs.Steps.{Stepped};
 ghost use Rattle.explore.specs.Stacks.{height, pending, lost_of, weight_of};
 ghost use Rattle.settle.specs.Reach.{masks_of, Covers};
 
@@ -22,11 +23,15 @@ use settle::settle;
 
 impl Stack {
     // Settles the next box, and then drops it or splits it in two. The binder has a mark below each box, which
-    // is undone as the box is dropped, so that a box is settled from what its level kept.
+    // is undone as the box is dropped, so that a box is settled from what its level kept. `stepped` says what a turn does
+    // whatever is explored, and names what is left free; `law` says what that comes to for an exploration.
     pub fn turn<B: Binder>(&mut self, binder: &mut B, reach: &Reach, slots: usize) -> Outcome
         ensures law { (P : Problem) (D : List Decision) (G : List Plan) (X : Box) (m : Binding) → length P.sizes ≡ slots → Covers P.sheets P.scope (masks_of reach.now)
             → Exploring P D G X m (pending self.old) (lost_of self.old) (height self.old) (B.Binder.meaning binder.old)
             → Turned P D G X m result (pending self.new) (lost_of self.new) (height self.new) (B.Binder.meaning binder.new) }
+        ensures stepped { IfEmpty result
+            (height self.old ≡ 0)
+            (Stepped result (B.Binder.meaning binder.old) (B.Binder.meaning binder.new) (masks_of reach.now) slots (pending self.old) (pending self.new) (lost_of self.old) (lost_of self.new) (height self.old)) }
         ensures less { IfEmpty result
             ((height self.old ≡ 0) × (self.new ≡ self.old) × (binder.new ≡ binder.old))
             (weight_of self.new < weight_of self.old) }

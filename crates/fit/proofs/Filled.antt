@@ -5,7 +5,7 @@ use Rattle.std.proofs.lemmas.Bool.{cases_eq}
 use Rattle.std.proofs.lemmas.List.{get_or_default}
 use Rattle.catalogue.specs.declared.view.View.{View}
 use Rattle.sheets.proofs.Tabled.{shown_there}
-use Rattle.fit.specs.Laid.{row_count, rows_before, Each, Apart, Numbered, Runs}
+use Rattle.fit.specs.Laid.{row_count, rows_before, Each, RunsApart, Numbered, Runs}
 use Rattle.fit.proofs.Sifting.{lies_mid, replaced_mid}
 
 -- a table filled entry by entry
@@ -67,7 +67,7 @@ run_laid xs next from k n e h long x =
     record { here = λ p lt. r.is.at p lt ∙ x.each p lt; under = r.under }
 
 -- one run after another
-runs_more : (starts counts order next : List ℕ) (k n : ℕ) → k < n → Apart starts counts n → Run order next (get_or starts k 0) (get_or counts k 0) → Runs starts counts order k → Runs starts counts next (k + 1)
+runs_more : (starts counts order next : List ℕ) (k n : ℕ) → k < n → RunsApart starts counts n → Run order next (get_or starts k 0) (get_or counts k 0) → Runs starts counts order k → Runs starts counts next (k + 1)
 runs_more starts counts order next k n lt a r x =
     record {
       each = λ s p h q.
@@ -77,7 +77,7 @@ runs_more starts counts order next k n lt a r x =
           (cases_eq s k);
     }
 
-pub runs_next : (starts counts order next : List ℕ) (i m n from k count : ℕ) → i < n → Apart starts counts n → from ≡ get_or starts i 0 → count ≡ get_or counts i 0 → m ≡ i + 1 → k ≡ count → length order ≡ 4096
+pub runs_next : (starts counts order next : List ℕ) (i m n from k count : ℕ) → i < n → RunsApart starts counts n → from ≡ get_or starts i 0 → count ≡ get_or counts i 0 → m ≡ i + 1 → k ≡ count → length order ≡ 4096
     → length next ≡ length (mid_of from k order) → Numbered next (length (mid_of from k order)) → Runs starts counts order i → Runs starts counts (put_mid from k order next) m
 runs_next starts counts order next i m n from k count lt a at is one e room long x runs =
     let fits : from + count ≤ length order = omega (arith, a.room i lt) in

@@ -18,7 +18,7 @@ use Rattle.sheets.proofs.Chosen.{taken_of, taken_sheets}
 use Rattle.sheets.proofs.Entries.{entries_rows, row_at_lem, row_long, row_low}
 use Rattle.sheets.proofs.Scopes.{GoodScope, scope_at}
 use Rattle.sheets.proofs.Tabled.{At, at, sheets_long, none_at}
-use Rattle.fit.specs.Laid.{scope_of, row_count, rows_before, row_of, Sound, Each, Apart, Runs, Laid}
+use Rattle.fit.specs.Laid.{scope_shown, row_count, rows_before, row_of, SoundViews, Each, RunsApart, Runs, Laid}
 use Rattle.fit.specs.Meaning.{keeps, fitting, scope_here, same_decides, keeps_decides}
 use Rattle.fit.proofs.Filled.{before_next}
 
@@ -44,7 +44,7 @@ module _ (options : List ℕ) (ts : List Sheet) (views : List View) (s : ℕ) (a
   plain : is_load a.sheet.make ≡ false
   plain = ap is_load a.make
 
-  scope_is : scope_of views s ≡ a.sheet.scope
+  scope_is : scope_shown views s ≡ a.sheet.scope
   scope_is = ap (λ v. v.scope) a.shows
 
   count_is : row_count views s ≡ length a.sheet.rows
@@ -82,10 +82,10 @@ module _ (views : List View) (n : ℕ) (t : Taken Fit views n) (whole : n ≤ le
   here : (s : ℕ) → s < n → At t.options Fit t.sheets views s
   here s h = at Fit views n t s h whole
 
-  scopes : (s : ℕ) → s < n → GoodScope (scope_of views s)
+  scopes : (s : ℕ) → s < n → GoodScope (scope_shown views s)
   scopes = scope_at Fit views n ∣ t ∣₁ whole
 
-  sound : Sound views n
+  sound : SoundViews views n
   sound =
       record {
         some = λ s h. (scopes s h).some;
@@ -100,7 +100,7 @@ module _ (views : List View) (n : ℕ) (t : Taken Fit views n) (whole : n ≤ le
     next : (s k : ℕ) → s < k → k ≤ n → get_or starts s 0 + row_count views s ≤ rows_before views k
     next s k h l = omega (arith, begins.is s (omega arith), before_next views s k h)
 
-    pub runs_apart : Apart starts counts n
+    pub runs_apart : RunsApart starts counts n
     runs_apart =
         record {
           few = few;
@@ -162,7 +162,7 @@ module _ (views : List View) (n : ℕ) (t : Taken Fit views n) (whole : n ≤ le
             scope = λ s.
                 ⊎_elim
                 (λ h. let a = here s h in scope_here views n s h ∙ scope_is _ _ views s a ∙ sym a.scope)
-                (λ h. cond-false (ltb s n) (scope_of views s) [] (le-ltb s n h) ∙ sym (none_at t.sheets s (omega arith)).scope)
+                (λ h. cond-false (ltb s n) (scope_shown views s) [] (le-ltb s n h) ∙ sym (none_at t.sheets s (omega arith)).scope)
                 (cases_lt s n);
             kept = λ s l.
                 ⊎_elim

@@ -12,9 +12,9 @@ use Rattle.sheets.specs.Tables.{scope_in, option_at}
 use Rattle.sheets.proofs.Narrowing.{Masks, shown_by_masks}
 use Rattle.fit.specs.Runs.{Among, Sifted}
 use Rattle.fit.specs.Rows.{Suits, Whole, Low, Gathered}
-use Rattle.fit.specs.Laid.{scope_of, entries_of, row_count, row_of, Laid}
+use Rattle.fit.specs.Laid.{scope_shown, entries_of, row_count, row_of, Laid}
 use Rattle.fit.specs.Meaning.{Keeps, keeps, kept_at, fitting, Exact, scope_here, keeps_decides, kept_decides, from_T, to_T}
-use Rattle.fit.proofs.Sifting.{Mixed, SiftedRun, Lies, sifted_part, lies_left}
+use Rattle.fit.proofs.Sifting.{Mixed, SiftedRun, HoldsRun, sifted_part, lies_left}
 use Rattle.fit.proofs.Rowing.{suits_at, row_there, fits_row, suits_row, option_row}
 
 -- tests of the same are the same
@@ -38,18 +38,18 @@ at_sheet a a' e e' P p q h = subst (λ y. P a' y) q (subst (λ y. P y e) p h)
 
 module _ (views : List View) (count : ℕ) (starts order counts : List ℕ) (saved : List (List ℕ)) (marks : ℕ) (x : Laid views count starts order counts saved marks) (s : ℕ) (hs : s < count) where
   -- a sift of the run, by what the code read of the sheet
-  module _ (b next scope entries : List ℕ) (k left : ℕ) (is_scope : scope ≡ scope_of views s) (is_entries : entries ≡ entries_of views s) (all : k ≡ get_or counts s 0) (room : length order ≡ 4096)
+  module _ (b next scope entries : List ℕ) (k left : ℕ) (is_scope : scope ≡ scope_shown views s) (is_entries : entries ≡ entries_of views s) (all : k ≡ get_or counts s 0) (room : length order ≡ 4096)
       (sifted : Sifted (Suits b scope entries) (mid_of (get_or starts s 0) k order) next left) where
-    at_run : Sifted (Suits b (scope_of views s) (entries_of views s)) (mid_of (get_or starts s 0) k order) next left
+    at_run : Sifted (Suits b (scope_shown views s) (entries_of views s)) (mid_of (get_or starts s 0) k order) next left
     at_run = at_sheet _ _ _ _ (λ sc es. Sifted (Suits b sc es) (mid_of (get_or starts s 0) k order) next left) is_scope is_entries sifted
 
-    pub sifted_here : SiftedRun (Suits b (scope_of views s) (entries_of views s)) order (put_mid (get_or starts s 0) k order next) (get_or starts s 0) (get_or counts s 0) left
+    pub sifted_here : SiftedRun (Suits b (scope_shown views s) (entries_of views s)) order (put_mid (get_or starts s 0) k order next) (get_or starts s 0) (get_or counts s 0) left
     sifted_here = sifted_part _ order next (get_or starts s 0) k (get_or counts s 0) left all (omega (arith, x.room s hs, x.within s hs)) at_run
 
-    pub left_here : Lies (put_mid (get_or starts s 0) k order next) (take left (mid_of (get_or starts s 0) k (put_mid (get_or starts s 0) k order next))) (get_or starts s 0) left
+    pub left_here : HoldsRun (put_mid (get_or starts s 0) k order next) (take left (mid_of (get_or starts s 0) k (put_mid (get_or starts s 0) k order next))) (get_or starts s 0) left
     left_here = lies_left _ order next (get_or starts s 0) k (get_or counts s 0) left all (omega (arith, x.room s hs, x.within s hs)) at_run
 
-  module _ (order' b : List ℕ) (left : ℕ) (sifted : SiftedRun (Suits b (scope_of views s) (entries_of views s)) order order' (get_or starts s 0) (get_or counts s 0) left) where
+  module _ (order' b : List ℕ) (left : ℕ) (sifted : SiftedRun (Suits b (scope_shown views s) (entries_of views s)) order order' (get_or starts s 0) (get_or counts s 0) left) where
     mixed : Mixed order order' (get_or starts s 0) (get_or counts s 0)
     mixed = sifted.mixed
 
@@ -106,7 +106,7 @@ module _ (views : List View) (count : ℕ) (starts order counts : List ℕ) (sav
         }
 
     -- what a gathering asks of the rows that are left
-    module _ (rows : List ℕ) (at : Lies order' rows (get_or starts s 0) left) where
+    module _ (rows : List ℕ) (at : HoldsRun order' rows (get_or starts s 0) left) where
       pub whole_after : Whole rows (entries_of views s)
       whole_after =
           record {
@@ -116,13 +116,13 @@ module _ (views : List View) (count : ℕ) (starts order counts : List ℕ) (sav
                 (row_there views s (get_or order' (get_or starts s 0 + p) 0) (rows_after s p hs (omega (arith, x.within s hs, sifted.fewer))));
           }
 
-      pub low_after : Low rows (entries_of views s) (length (scope_of views s))
+      pub low_after : Low rows (entries_of views s) (length (scope_shown views s))
       low_after =
           record {
             each = λ q p hq hp.
                 let lt : q < left = omega (arith, at.long) in
-                let good = subst (Suits b (scope_of views s) (entries_of views s)) (at.at q lt) (sifted.good q lt) in
-                open_low b (get_or (scope_of views s) p 0) (option_at (entries_of views s) (get_or rows q 0) p) (suits_at b (scope_of views s) (entries_of views s) (get_or rows q 0) good p hp);
+                let good = subst (Suits b (scope_shown views s) (entries_of views s)) (at.at q lt) (sifted.good q lt) in
+                open_low b (get_or (scope_shown views s) p 0) (option_at (entries_of views s) (get_or rows q 0) p) (suits_at b (scope_shown views s) (entries_of views s) (get_or rows q 0) good p hp);
           }
 
     -- what is kept after was kept before, and fits
@@ -131,18 +131,18 @@ module _ (views : List View) (count : ℕ) (starts order counts : List ℕ) (sav
         moved views starts order' order s left (get_or counts s 0) l
         (λ v a. mixed.back v (get_or counts s 0) (omega arith) (record { place = a.place; below = omega (arith, a.below, sifted.fewer); is = a.is }))
 
-    kept_fits : (l : List ℕ) → Keeps views starts order' s left l → Fits b (scope_of views s) l
+    kept_fits : (l : List ℕ) → Keeps views starts order' s left l → Fits b (scope_shown views s) l
     kept_fits l z =
         let a = z.among in
-        subst (Fits b (scope_of views s)) z.reads
-        (fits_row views s b z.row (subst (Suits b (scope_of views s) (entries_of views s)) a.is (sifted.good a.place a.below)))
+        subst (Fits b (scope_shown views s)) z.reads
+        (fits_row views s b z.row (subst (Suits b (scope_shown views s) (entries_of views s)) a.is (sifted.good a.place a.below)))
 
     -- and what was kept before and fits is kept
-    kept_still : (l : List ℕ) → Keeps views starts order s (get_or counts s 0) l → Fits b (scope_of views s) l → Keeps views starts order' s left l
+    kept_still : (l : List ℕ) → Keeps views starts order s (get_or counts s 0) l → Fits b (scope_shown views s) l → Keeps views starts order' s left l
     kept_still l z fits =
         record {
           row = z.row;
-          among = sifted.still z.row z.among (suits_row views s b z.row (subst (Fits b (scope_of views s)) (sym z.reads) fits));
+          among = sifted.still z.row z.among (suits_row views s b z.row (subst (Fits b (scope_shown views s)) (sym z.reads) fits));
           reads = z.reads;
         }
 
@@ -152,10 +152,10 @@ module _ (views : List View) (count : ℕ) (starts order counts : List ℕ) (sav
     is : Binding
     is = fitting views count starts order' (set counts s left) saved marks
 
-    scoped : (P : List ℕ → Type 0) → P (scope_of views s) → P (scope_in views count s)
+    scoped : (P : List ℕ → Type 0) → P (scope_shown views s) → P (scope_in views count s)
     scoped P = subst P (sym (scope_here views count s hs))
 
-    unscoped : (P : List ℕ → Type 0) → P (scope_in views count s) → P (scope_of views s)
+    unscoped : (P : List ℕ → Type 0) → P (scope_in views count s) → P (scope_shown views s)
     unscoped P = subst P (scope_here views count s hs)
 
     now_decides : (l : List ℕ) → Decides (keeps views count starts order' s (get_or (set counts s left) s 0) l) (Keeps views starts order' s left l)
@@ -180,21 +180,21 @@ module _ (views : List View) (count : ℕ) (starts order counts : List ℕ) (sav
               (now_decides l);
         }
 
-    masks_hold : (masks rows : List ℕ) → Lies order' rows (get_or starts s 0) left → Gathered b (scope_of views s) rows (entries_of views s) masks (length (scope_of views s)) → Masks (fitting views count starts order counts saved marks) s b masks
+    masks_hold : (masks rows : List ℕ) → HoldsRun order' rows (get_or starts s 0) left → Gathered b (scope_shown views s) rows (entries_of views s) masks (length (scope_shown views s)) → Masks (fitting views count starts order counts saved marks) s b masks
     masks_hold masks rows at g =
-        let sound : (p o : ℕ) → p < length (scope_of views s) → Bit (get_or masks p 0) o → (l : List ℕ) × Keeps views starts order' s left l × (get_or l p 0 ≡ o)
+        let sound : (p o : ℕ) → p < length (scope_shown views s) → Bit (get_or masks p 0) o → (l : List ℕ) × Keeps views starts order' s left l × (get_or l p 0 ≡ o)
         = λ p o h bit.
         let k = (g.each p h).sound o bit in
         let lt : k.place < left = omega (arith, k.below, at.long) in
         let r : ℕ = get_or rows k.place 0 in
         (row_of views s r, record { row = r; among = record { place = k.place; below = lt; is = at.at k.place lt }; reads = refl }, option_row views s r p h ∙ k.has) in
-        let complete : (p o : ℕ) → p < length (scope_of views s) → (l : List ℕ) → Keeps views starts order s (get_or counts s 0) l → Fits b (scope_of views s) l → get_or l p 0 ≡ o → Bit (get_or masks p 0) o
+        let complete : (p o : ℕ) → p < length (scope_shown views s) → (l : List ℕ) → Keeps views starts order s (get_or counts s 0) l → Fits b (scope_shown views s) l → get_or l p 0 ≡ o → Bit (get_or masks p 0) o
         = λ p o h l kept fits holds.
         let z = kept_still l kept fits in
         let lt : z.among.place < length rows = omega (arith, z.among.below, at.long) in
         let has : option_at (entries_of views s) (get_or rows z.among.place 0) p ≡ o
         = ap (λ r. option_at (entries_of views s) r p) (sym (at.at z.among.place z.among.below) ∙ z.among.is) ∙ sym (option_row views s z.row p h) ∙ ap (λ r. get_or r p 0) z.reads ∙ holds in
-        (g.each p h).complete o (record { place = z.among.place; below = lt; has = has }) (subst (Open b (get_or (scope_of views s) p 0)) holds (fits.each p h)) in
+        (g.each p h).complete o (record { place = z.among.place; below = lt; has = has }) (subst (Open b (get_or (scope_shown views s) p 0)) holds (fits.each p h)) in
         record {
           sound = λ p o h is_open bit.
               let z = sound p o (unscoped (λ sc. p < length sc) h) bit in
@@ -208,7 +208,7 @@ module _ (views : List View) (count : ℕ) (starts order counts : List ℕ) (sav
               complete p o (unscoped (λ sc. p < length sc) h) held.list ((was_decides held.list).0 (from_T _ held.keeps)) (unscoped (λ sc. Fits b sc held.list) held.fits) held.holds;
         }
 
-    pub shown : (c masks rows : List ℕ) → Lies order' rows (get_or starts s 0) left → Gathered b (scope_of views s) rows (entries_of views s) masks (length (scope_of views s)) → Narrowed b c (scope_of views s) masks (length (scope_of views s))
+    pub shown : (c masks rows : List ℕ) → HoldsRun order' rows (get_or starts s 0) left → Gathered b (scope_shown views s) rows (entries_of views s) masks (length (scope_shown views s)) → Narrowed b c (scope_shown views s) masks (length (scope_shown views s))
         → Shown (fitting views count starts order counts saved marks) (fitting views count starts order' (set counts s left) saved marks) s b c
     shown c masks rows at g narrowed =
         let box = shown_by_masks (fitting views count starts order counts saved marks) s b c masks

@@ -91,11 +91,11 @@ pub record SiftedRun (Good : ℕ → Type 0) (xs ys : List ℕ) (from n k : ℕ)
   pub still : (v : ℕ) → Among xs from n v → Good v → Among ys from k v
 
 -- the n places from `from` on hold the list `run`
-pub record Lies (xs run : List ℕ) (from n : ℕ) : Type 0 where
+pub record HoldsRun (xs run : List ℕ) (from n : ℕ) : Type 0 where
   pub long : length run ≡ n
   pub at : (p : ℕ) → p < n → get_or xs (from + p) 0 ≡ get_or run p 0
 
-pub lies_mid : (xs : List ℕ) (from k n : ℕ) → k ≡ n → from + n ≤ length xs → Lies xs (mid_of from k xs) from n
+pub lies_mid : (xs : List ℕ) (from k n : ℕ) → k ≡ n → from + n ≤ length xs → HoldsRun xs (mid_of from k xs) from n
 lies_mid xs from k n e h = record {
   long = simp (length-take, length-drop) (omega arith);
   at = λ p lt. let lk : p < k = omega arith in sym (get_or-take k (drop from xs) p 0 lk ∙ get_or-drop from xs p 0);
@@ -103,8 +103,8 @@ lies_mid xs from k n e h = record {
 
 -- `run` is replaced by `next` there, and elsewhere ys is as xs
 pub record Replaced (xs ys run next : List ℕ) (from n : ℕ) : Type 0 where
-  pub was : Lies xs run from n
-  pub is : Lies ys next from n
+  pub was : HoldsRun xs run from n
+  pub is : HoldsRun ys next from n
   pub under : (p : ℕ) → p < from → get_or ys p 0 ≡ get_or xs p 0
   pub past : (p : ℕ) → from + n ≤ p → get_or ys p 0 ≡ get_or xs p 0
 
@@ -187,14 +187,14 @@ module _ (Good : ℕ → Type 0) (xs next : List ℕ) (from k n left : ℕ) (e :
   sifted_part = sifted_run Good xs (put_mid from k xs next) (mid_of from k xs) next from n left replaced s
 
   -- the run as it lies there after
-  pub lies_after : Lies (put_mid from k xs next) (mid_of from k (put_mid from k xs next)) from n
+  pub lies_after : HoldsRun (put_mid from k xs next) (mid_of from k (put_mid from k xs next)) from n
   lies_after =
       let long : length next ≡ n = s.long ∙ run_long in
       let same : length (put_mid from k xs next) ≡ length xs = simp (length-append, length-take, length-drop) (omega arith) in
       lies_mid (put_mid from k xs next) from k n e (omega arith)
 
   -- and its front, the places that are left
-  pub lies_left : Lies (put_mid from k xs next) (take left (mid_of from k (put_mid from k xs next))) from left
+  pub lies_left : HoldsRun (put_mid from k xs next) (take left (mid_of from k (put_mid from k xs next))) from left
   lies_left =
       let few : left ≤ n = omega (arith, s.fewer, run_long) in
       let long = lies_after.long in

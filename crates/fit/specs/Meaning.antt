@@ -12,7 +12,7 @@ use Rattle.boxes.specs.Boxes.{Fits}
 use Rattle.binder.specs.Meaning.{Binding, Proper, Listed}
 use Rattle.sheets.specs.Tables.{scope_in}
 use Rattle.fit.specs.Runs.{Among}
-use Rattle.fit.specs.Laid.{scope_of, row_count, row_of, Laid}
+use Rattle.fit.specs.Laid.{scope_shown, row_count, row_of, Laid}
 use Rattle.fit.specs.declared.Fit.{Fit}
 
 -- one of the first n places of the run of sheet s holds a row that reads as l
@@ -52,8 +52,8 @@ pub record Exact (m n : Binding) (s : ℕ) (b : List ℕ) : Type 0 where
   pub just : (l : List ℕ) → Decides (n.kept s l) ((m.kept s l ≡ true) × Fits b (m.scope s) l)
 
 -- Laws of these definitions.
-pub scope_here : (views : List View) (count s : ℕ) → s < count → scope_in views count s ≡ scope_of views s
-scope_here views count s h = cond-true (nat_lt s count) (scope_of views s) [] (lt-ltb s count h)
+pub scope_here : (views : List View) (count s : ℕ) → s < count → scope_in views count s ≡ scope_shown views s
+scope_here views count s h = cond-true (nat_lt s count) (scope_shown views s) [] (lt-ltb s count h)
 
 same_to : (xs ys : List ℕ) → same xs ys ≡ true → xs ≡ ys
 same_to [] [] t = refl
@@ -127,20 +127,19 @@ module _ (views : List View) (count : ℕ) (starts order counts : List ℕ) (sav
   listed_row x s n l le k =
       let a = k.1.among in
       let there : k.1.row < row_count views s = subst (λ r. r < row_count views s) a.is (x.rows s a.place k.0 (omega (arith, a.below))) in
-      let long : length (row_of views s k.1.row) ≡ length (scope_of views s) = x.sound.long s k.1.row k.0 there in
-      let low : (p : ℕ) → p < length (scope_of views s) → slice_index (row_of views s k.1.row) p < 32 = λ p h. x.sound.options s k.1.row p k.0 there h in
+      let long : length (row_of views s k.1.row) ≡ length (scope_shown views s) = x.sound.long s k.1.row k.0 there in
+      let low : (p : ℕ) → p < length (scope_shown views s) → slice_index (row_of views s k.1.row) p < 32 = λ p h. x.sound.options s k.1.row p k.0 there h in
       subst (λ sc. Listed sc l) (sym (scope_here views count s k.0))
-      (subst (Listed (scope_of views s)) k.1.reads (record { long = long; low = low }))
+      (subst (Listed (scope_shown views s)) k.1.reads (record { long = long; low = low }))
 
   pub fitting_proper : Laid views count starts order counts saved marks → Proper (fitting views count starts order counts saved marks)
   fitting_proper x =
-      let here : (s : ℕ) → s < count → scope_of views s ≡ scope_in views count s = λ s h. sym (scope_here views count s h) in
+      let here : (s : ℕ) → s < count → scope_shown views s ≡ scope_in views count s = λ s h. sym (scope_here views count s h) in
       record {
         few = omega (arith, x.few);
         low = x.low;
         some = λ s h. subst (λ sc. 1 ≤ length sc) (here s h) (x.sound.some s h);
         short = λ s h. subst (λ sc. length sc ≤ 8) (here s h) (x.sound.short s h);
-        slots = λ s p h. subst (λ sc. p < length sc → slice_index sc p < 48) (here s h) (x.sound.slots s p h);
         apart = λ s p q h lt. subst (λ sc. q < length sc → slice_index sc p ≢ slice_index sc q) (here s h) (x.sound.apart s p q h lt);
         listed = λ s l t. let k = (keeps_decides views count starts order s (slice_index counts s) l).0 (from_T _ t) in listed_row x s (slice_index counts s) l (x.within s k.0) k;
         listed_then = λ i s l t. let k = (kept_decides views count starts order marks i s (slice_index (slice_index_or saved i []) s) l).0 (from_T _ t) in listed_row x s (slice_index (slice_index_or saved i []) s) l (x.capped i s k.0 k.1.0) k.1;

@@ -1,6 +1,6 @@
 // The fit binder's calls.
 ghost use Rattle.std.specs.Prelude.{◌≡◌, ◌<◌, ◌≤◌, MatchResult, OnOk};
-ghost use Rattle.binder.specs.declared.refusal.Refusal.TheVariants.{NotThere};
+ghost use Rattle.binder.specs.Refusals.{number_of};
 ghost use Rattle.binder.specs.Meaning.{Shown};
 ghost use Rattle.fit.specs.Meaning.{meaning_of, proper_of, Exact};
 
@@ -8,7 +8,7 @@ use crate::Fit;
 use crate::dropping::sift;
 use crate::support::supports;
 use binder::binders::Binder;
-use binder::refusal::Refusal;
+use binder::refusal::BinderRefusal;
 use boxes::OptionBox;
 use sheets::closing::keep_only;
 
@@ -27,19 +27,19 @@ impl<'a> Binder for Fit<'a> {
         self.marks.count
     }
 
-    fn arity(&self, sheet: usize) -> Result<usize, Refusal> {
+    fn arity(&self, sheet: usize) -> Result<usize, BinderRefusal> {
         self.sheets.arity(sheet)
     }
 
-    fn slot_at(&self, sheet: usize, position: usize) -> Result<usize, Refusal> {
+    fn slot_at(&self, sheet: usize, position: usize) -> Result<usize, BinderRefusal> {
         self.sheets.slot_at(sheet, position)
     }
 
     // Drops the rows that do not fit, all of them, and then closes what the rows that are left do not hold.
     // The clause `shown` is said whole, as the interface says it: an impl with a clause of its own repeats it.
-    fn show(&mut self, sheet: usize, slate: &mut OptionBox) -> Result<(), Refusal>
+    fn show(&mut self, sheet: usize, slate: &mut OptionBox) -> Result<(), BinderRefusal>
         ensures shown { MatchResult result (λ _. (sheet < (meaning_of self.old).count) × Shown (meaning_of self.old) (meaning_of self.new) sheet slate.old.cells slate.new.cells)
-            (λ e. (e ≡ NotThere) × ((meaning_of self.old).count ≤ sheet) × (self.new ≡ self.old) × (slate.new ≡ slate.old)) }
+            (λ e. (number_of e ≡ 31) × ((meaning_of self.old).count ≤ sheet) × (self.new ≡ self.old) × (slate.new ≡ slate.old)) }
         ensures exact { OnOk result (Exact (meaning_of self.old) (meaning_of self.new) sheet slate.old.cells) }
     {
         let shown = self.sheets.sheet(sheet)?;
@@ -53,7 +53,7 @@ impl<'a> Binder for Fit<'a> {
         Ok(())
     }
 
-    fn mark(&mut self) -> Result<(), Refusal> {
+    fn mark(&mut self) -> Result<(), BinderRefusal> {
         let mut marks = self.marks;
         marks.add()?;
         let counts = self.counts;
@@ -62,7 +62,7 @@ impl<'a> Binder for Fit<'a> {
         Ok(())
     }
 
-    fn undo(&mut self) -> Result<(), Refusal> {
+    fn undo(&mut self) -> Result<(), BinderRefusal> {
         let mut marks = self.marks;
         marks.drop_newest()?;
         let counts = self.saved[marks.count];

@@ -3,7 +3,7 @@ ghost use Rattle.std.specs.Prelude.{◌≡◌, ◌/◌, ◌<◌, ◌≤◌, leng
 ghost use Rattle.catalogue.specs.Verdict.{content};
 ghost use Rattle.sheets.specs.Tables.{sheets_in};
 ghost use Rattle.sheets.specs.Rules.{Fresh};
-ghost use Rattle.fit.specs.Laid.{row_count, rows_before, Each, Apart, Numbered, Runs};
+ghost use Rattle.fit.specs.Laid.{row_count, rows_before, Each, RunsApart, Numbered, Runs};
 ghost use Rattle.fit.specs.Meaning.{meaning_of};
 
 use crate::Fit;
@@ -12,7 +12,7 @@ use catalogue::checked::Catalogue;
 use catalogue::make::Make;
 use catalogue::view::View;
 use sheets::sheet::ROW;
-use sheets::table::Sheets;
+use sheets::table::SheetTable;
 use sheets::taking::sheets_of;
 
 // How many rows a sheet has, as a view shows it.
@@ -23,7 +23,7 @@ fn row_count(view: &View) -> usize
 }
 
 // How many rows each sheet has.
-fn row_counts(sheets: &Sheets) -> [u16; 64]
+fn row_counts(sheets: &SheetTable) -> [u16; 64]
     requires { rows_before sheets.now.views sheets.now.count ≤ 4096 }
     ensures { Each (row_count sheets.now.views) result sheets.now.count }
 {
@@ -35,7 +35,7 @@ fn row_counts(sheets: &Sheets) -> [u16; 64]
 }
 
 // Where the run of each sheet begins: behind the runs of the sheets before it.
-fn run_starts(sheets: &Sheets) -> [u16; 64]
+fn run_starts(sheets: &SheetTable) -> [u16; 64]
     requires { rows_before sheets.now.views sheets.now.count ≤ 4096 }
     ensures { Each (rows_before sheets.now.views) result sheets.now.count }
 {
@@ -60,7 +60,7 @@ fn lay_run(run: &mut [u16])
 
 // The places of `n` runs: each holds the row numbers of its sheet, in their order.
 fn run_places(starts: &[u16; 64], counts: &[u16; 64], n: usize) -> [u16; 4096]
-    requires { Apart starts.now counts.now n }
+    requires { RunsApart starts.now counts.now n }
     ensures { Runs starts.now counts.now result n }
 {
     let mut order = [0; 4096];

@@ -4,7 +4,7 @@
 ghost use Rattle.fit.specs.Laid.{Laid};
 
 use binder::marks::Marks;
-use sheets::table::Sheets;
+use sheets::table::SheetTable;
 
 pub mod calls;
 mod dropping;
@@ -25,7 +25,7 @@ mod support;
 // are tables of as much as there can be, since the library takes no memory from a heap.
 #[derive(Drop)]
 pub struct Fit<'a> {
-    sheets: Sheets<'a>,
+    sheets: SheetTable<'a>,
     order: [u16; 4096],
     starts: [u16; 64],
     counts: [u16; 64],

@@ -1,8 +1,9 @@
-// What the programs read: the first bytes of an input or of a file.
+// What the programs read: the first bytes of an input or of a file, and one read after another.
 #![tactic(auto)]
 
-ghost use Rattle.std.specs.Prelude.{◌≡◌, ◌≢◌, ◌≤◌, [], take, IfOk, IfErr, IsOkAnd, IfSome, vec_len};
+ghost use Rattle.std.specs.Prelude.{◌≡◌, ◌≢◌, ◌+◌, ◌≤◌, ◌<◌, [], take, drop, length, IfOk, IfErr, OnErr, IsOkAnd, IfSome, vec_len, vec_items, Err};
 ghost use Rattle.std.specs.IoError.{error_kind};
+ghost use Rattle.std.specs.Io.KnownBytes.{Consumes, IsAtEnd, Keeps};
 
 use std::alloc::Allocator;
 use std::fs::File;
@@ -13,11 +14,9 @@ use std::rt::Files;
 #[cfg(test)]
 mod tests;
 
-// How much the programs read at most, of a file and of an input.
+// How much the programs read at most, of a file and of an input. That it is more than an accepted catalogue can have is
+// proved in `dialogue`, which knows both.
 pub const LIMIT: usize = 65536;
-
-// The longest accepted catalogue has 47,873 bytes, so each is read whole, and one that is cut has too many.
-const _: () = prove!(LIMIT > 47_873);
 
 // The first bytes of an input: all, or as many as `limit` says where there are more. A read that is interrupted is tried
 // again.
@@ -37,34 +36,62 @@ pub fn first_bytes<R: Read + Drop, A: Allocator>(
     Ok(bytes)
 }
 
-// What was read, or no bytes where the error says that nothing was found. Every other error is passed on.
-fn unless_missing<A: Allocator>(alloc: A, read: io::Result<Vec<u8, A>>) -> io::Result<Vec<u8, A>>
-    ensures kept { IfOk read (λ bytes. result ≡ read) }
-    ensures missing { IfErr read (λ e. error_kind e ≡ ErrorKind.NotFound → IsOkAnd result (λ bytes. bytes.items ≡ [])) }
-    ensures passed { IfErr read (λ e. error_kind e ≢ ErrorKind.NotFound → result ≡ read) }
+// The first bytes of a file that was to be opened. One that was not found counts as empty, and every other error is passed
+// on, whether of opening or of reading.
+pub fn first_bytes_of_opened<R: Read + Drop, A: Allocator>(
+    alloc: A,
+    opened: io::Result<R>,
+    limit: usize,
+) -> io::Result<Vec<u8, A>>
+    ensures within { IfOk result (λ bytes. vec_len bytes ≤ limit) }
+    ensures bytes { IfOk opened (λ file. IfSome (R.remaining file) (λ xs. IfOk result (λ bytes. bytes.items ≡ take limit xs))) }
+    ensures missing { IfErr opened (λ e. error_kind e ≡ ErrorKind.NotFound → IsOkAnd result (λ bytes. bytes.items ≡ [])) }
+    ensures passed { IfErr opened (λ e. error_kind e ≢ ErrorKind.NotFound → result ≡ Err e) }
 {
-    match read {
+    match opened {
+        Ok(file) => first_bytes(alloc, file, limit),
         Err(e) if e.kind() == ErrorKind::NotFound => Ok(Vec::new(alloc)),
-        read => read,
+        Err(e) => Err(e),
     }
 }
 
-// The same of a file. One that is missing counts as empty, and so does one whose reading says that it is not found. Every
-// other error is passed on. No contract knows which file is opened; so what is read of it is said at the closure, and what
-// becomes of that at `unless_missing`.
+// The same of the file at a path. No contract knows which file is opened.
 pub fn first_bytes_of_file<R: Files + Alloc>(
     rt: &R,
     path: &str,
     limit: usize,
 ) -> io::Result<Vec<u8, R::A>>
-    ensures within { IfOk result (λ bytes. vec_len bytes ≤ limit) }
-    ensures missing { IfErr result (λ e. error_kind e ≢ ErrorKind.NotFound) }
+    ensures { IfOk result (λ bytes. vec_len bytes ≤ limit) }
 {
-    let read = File::open(rt, path).and_then(
-        |file|
-            ensures within { IfOk result (λ bytes. vec_len bytes ≤ limit) }
-            ensures bytes { IfSome (R.File.remaining file) (λ xs. IfOk result (λ bytes. bytes.items ≡ take limit xs)) }
-        { first_bytes(rt.alloc(), file, limit) },
-    );
-    unless_missing(rt.alloc(), read)
+    first_bytes_of_opened(rt.alloc(), File::open(rt, path), limit)
+}
+
+// One read, tried again while it is interrupted. An error has taken nothing.
+pub fn read_some<R: Read>(input: &mut R, into: &mut [u8]) -> io::Result<usize>
+    ensures within { IfOk result (λ n. n ≤ length into.new) }
+    ensures taken { IfOk result (λ n. Consumes (R.remaining input.old) (R.remaining input.new) (take n into.new)) }
+    ensures end { IfOk result (λ n. n ≡ 0 → 0 < length into.old → IsAtEnd (R.remaining input.new)) }
+    ensures kept { OnErr result (Keeps (R.remaining input.old) (R.remaining input.new)) }
+    ensures retried { IfErr result (λ e. error_kind e ≢ ErrorKind.Interrupted) }
+{
+    for _ in 0..u64::MAX {
+        match input.read(into) {
+            Err(e) if e.kind() == ErrorKind::Interrupted => {}
+            read => return read,
+        }
+    }
+    Err(io::Error::from(ErrorKind::TimedOut))
+}
+
+// The same into the part of a buffer behind its first bytes, and these stay.
+pub fn read_behind<R: Read>(input: &mut R, buffer: &mut [u8], behind: usize) -> io::Result<usize>
+    requires { behind ≤ length buffer.old }
+    ensures within { IfOk result (λ n. behind + n ≤ length buffer.new) }
+    ensures front { take behind buffer.new ≡ take behind buffer.old }
+    ensures taken { IfOk result (λ n. Consumes (R.remaining input.old) (R.remaining input.new) (take n (drop behind buffer.new))) }
+    ensures end { IfOk result (λ n. n ≡ 0 → behind < length buffer.old → IsAtEnd (R.remaining input.new)) }
+    ensures kept { OnErr result (Keeps (R.remaining input.old) (R.remaining input.new)) }
+    ensures retried { IfErr result (λ e. error_kind e ≢ ErrorKind.Interrupted) }
+{
+    read_some(input, &mut buffer[behind..])
 }

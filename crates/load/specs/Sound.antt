@@ -55,7 +55,6 @@ module _ (views : List View) (n : ℕ) (tables : List (List (List ℤ))) (marks 
         low = low;
         some = λ s l. (good s l).some;
         short = λ s l. (good s l).short;
-        slots = λ s p l. (good s l).covered p;
         apart = λ s p q l. (good s l).apart p q;
         listed = kept_listed;
         listed_then = λ i. kept_listed;

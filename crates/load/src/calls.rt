@@ -1,6 +1,6 @@
 // Load sheets as a binder: its questions, showings and marks.
 ghost use Rattle.std.specs.Prelude.{◌≡◌, ◌<◌, ◌≤◌, MatchResult};
-ghost use Rattle.binder.specs.declared.refusal.Refusal.TheVariants.{NotThere};
+ghost use Rattle.binder.specs.Refusals.{number_of};
 ghost use Rattle.binder.specs.Meaning.{Shown};
 ghost use Rattle.catalogue.specs.declared.make.Make.TheVariants.{Load as LoadMake};
 ghost use Rattle.catalogue.specs.Verdict.{content};
@@ -13,7 +13,7 @@ use crate::masks::supported;
 use crate::weights::tables_of;
 use binder::binders::Binder;
 use binder::marks::Marks;
-use binder::refusal::Refusal;
+use binder::refusal::BinderRefusal;
 use boxes::OptionBox;
 use catalogue::checked::Catalogue;
 use catalogue::make::Make;
@@ -51,20 +51,20 @@ impl<'a> Binder for Load<'a> {
         self.marks.count
     }
 
-    fn arity(&self, sheet: usize) -> Result<usize, Refusal> {
+    fn arity(&self, sheet: usize) -> Result<usize, BinderRefusal> {
         self.sheets.arity(sheet)
     }
 
-    fn slot_at(&self, sheet: usize, position: usize) -> Result<usize, Refusal> {
+    fn slot_at(&self, sheet: usize, position: usize) -> Result<usize, BinderRefusal> {
         self.sheets.slot_at(sheet, position)
     }
 
     // Closes what no light enough list holds. The binder itself stays as it is, so each sheet goes on keeping
     // every list whose weights total at most its cap.
     // The clause `shown` is said whole, as the interface says it: an impl with a clause of its own repeats it.
-    fn show(&mut self, sheet: usize, slate: &mut OptionBox) -> Result<(), Refusal>
+    fn show(&mut self, sheet: usize, slate: &mut OptionBox) -> Result<(), BinderRefusal>
         ensures shown { MatchResult result (λ _. (sheet < (meaning_of self.old).count) × Shown (meaning_of self.old) (meaning_of self.new) sheet slate.old.cells slate.new.cells)
-            (λ e. (e ≡ NotThere) × ((meaning_of self.old).count ≤ sheet) × (self.new ≡ self.old) × (slate.new ≡ slate.old)) }
+            (λ e. (number_of e ≡ 31) × ((meaning_of self.old).count ≤ sheet) × (self.new ≡ self.old) × (slate.new ≡ slate.old)) }
         ensures stays { self.new ≡ self.old }
     {
         let taken = self.sheets.sheet(sheet)?;
@@ -74,11 +74,11 @@ impl<'a> Binder for Load<'a> {
         Ok(())
     }
 
-    fn mark(&mut self) -> Result<(), Refusal> {
+    fn mark(&mut self) -> Result<(), BinderRefusal> {
         self.marks.add()
     }
 
-    fn undo(&mut self) -> Result<(), Refusal> {
+    fn undo(&mut self) -> Result<(), BinderRefusal> {
         self.marks.drop_newest()
     }
 }

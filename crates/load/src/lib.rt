@@ -5,7 +5,7 @@ ghost use Rattle.std.specs.Prelude.{◌≤◌};
 
 use crate::table::Table;
 use binder::marks::Marks;
-use sheets::table::Sheets;
+use sheets::table::SheetTable;
 
 pub mod calls;
 mod leasts;
@@ -22,7 +22,7 @@ mod weights;
 // since the library takes no memory from a heap.
 #[derive(Drop)]
 pub struct Load<'a> {
-    sheets: Sheets<'a>,
+    sheets: SheetTable<'a>,
     weights: [Table; 8],
     marks: Marks,
     ghost few: { sheets.count ≤ 8 },

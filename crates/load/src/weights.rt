@@ -7,7 +7,7 @@ ghost use Rattle.load.specs.Given.{Giving, TellsAll};
 ghost use Rattle.load.specs.Tables.{weights_in, tables_in};
 
 use crate::table::{Table, Weights};
-use sheets::table::Sheets;
+use sheets::table::SheetTable;
 
 // The table of some entries, from the last weight to the first, so that of two for one option the first stands.
 fn table_of(entries: &[u8]) -> Table
@@ -25,7 +25,7 @@ fn table_of(entries: &[u8]) -> Table
 }
 
 // The tables of all sheets.
-pub(crate) fn tables_of(sheets: &Sheets) -> [Table; 8]
+pub(crate) fn tables_of(sheets: &SheetTable) -> [Table; 8]
     requires { is_make LoadMake sheets.now.make ≡ true }
     ensures { (s : ℕ) → s < sheets.now.count → TellsAll (shown_at sheets.now.views s).entries (slice_index_or (tables_in result) s []) }
 {

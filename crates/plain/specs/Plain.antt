@@ -7,13 +7,13 @@ use Rattle.sheets.specs.Tables.{sheets_in}
 use Rattle.sheets.specs.Rules.{scope_at, admits_at}
 use Rattle.subject.specs.Problem.{Problem}
 use Rattle.binder.specs.Meaning.{Binding}
-use Rattle.binder.specs.Joined.{paired}
+use Rattle.binder.specs.Joined as joining
 use Rattle.binder.specs.declared.join.Join as joined
 use Rattle.fit.specs.declared.Fit as fits
-use Rattle.bar.specs.declared.bars.Bar as bars
+use Rattle.bar.specs.declared.Bar as bars
 use Rattle.load.specs.declared.Load as loads
 use Rattle.fit.specs.Meaning as fitting
-use Rattle.bar.specs.Bars as barring
+use Rattle.bar.specs.Meaning as barring
 use Rattle.load.specs.Calls as loading
 use Rattle.planner.specs.Opening.{slots_in}
 
@@ -32,6 +32,4 @@ problem_in bytes = record {
 
 -- what a binder of the three makes means
 abbrev pub meaning_of : joined.Join (joined.Join fits.Fit bars.Bar) loads.Load → Binding
-meaning_of j =
-    paired j.both (paired j.first.both (fitting.meaning_of j.first.first) (barring.barring j.first.second.sheets.views j.first.second.sheets.count j.first.second.marks.count))
-    (loading.meaning_of j.second)
+meaning_of = joining.meaning_of (joining.meaning_of fitting.meaning_of barring.meaning_of) loading.meaning_of

@@ -5,7 +5,7 @@ ghost use Rattle.std.specs.Prelude.{[]};
 ghost use Rattle.planner.specs.States.{After};
 ghost use Rattle.plain.specs.Plain.{problem_in, meaning_of};
 
-use bar::bars::Bar;
+use bar::Bar;
 use binder::join::Join;
 use catalogue::checked::Catalogue;
 use fit::Fit;
@@ -13,10 +13,10 @@ use load::Load;
 use planner::state::Planner;
 
 // The sheets of a catalogue as one binder: its fit sheets, then its bar sheets, then its load sheets.
-pub type Sheets<'a> = Join<Join<Fit<'a>, Bar<'a>>, Load<'a>>;
+pub type AllSheets<'a> = Join<Join<Fit<'a>, Bar<'a>>, Load<'a>>;
 
 // Opens a planner on the slots of a checked catalogue and all its sheets.
-pub fn open<'a>(catalogue: &Catalogue<'a>) -> Planner<Sheets<'a>>
+pub fn open<'a>(catalogue: &Catalogue<'a>) -> Planner<AllSheets<'a>>
     ensures { After meaning_of (problem_in catalogue.now.bytes.now) [] result }
 {
     let fit = Fit::new(catalogue);

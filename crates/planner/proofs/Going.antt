@@ -20,6 +20,7 @@ use Rattle.explore.specs.Outcomes.{IfEmpty, Turned}
 use Rattle.explore.specs.declared.stack.Stack.{Stack}
 use Rattle.explore.specs.declared.outcome.Outcome.{Outcome}
 use Rattle.explore.specs.declared.outcome.Outcome.TheVariants.{Empty, Dry, Split, Found}
+use Rattle.settle.proofs.Keeping.{opens_low}
 use Rattle.explore.proofs.Turning.{exploring_begins}
 use Rattle.planner.specs.Answers.{begin_entry, next_entry, end_entry}
 use Rattle.planner.specs.States.{Saved, After}
@@ -51,7 +52,7 @@ module _ {B : Type 0} {bound : Ghosts B} (meaning : B → Binding) (P : Problem)
       let st = a.stands in
       let room : m.marks + 49 ≤ 72 = omega (arith, ap (λ x. x.marks) em, st.marks, p.deep) in
       let first-box = exploring_begins P D (opens p.slate.cells) m (meaning w.planner.binder) (pending w.stack) (lost_of w.stack) st.some room
-      (subst (λ x. Rattle.settle.specs.Keeping.Has P x) (sym em) st.has) (subst (λ x. Rattle.settle.specs.Keeping.Keeps P (opens p.slate.cells) x.kept) (sym em) st.keeps) st.largest noted first in
+      (subst (λ x. Rattle.settle.specs.Keeping.Has P x) (sym em) st.has) (subst (λ x. Rattle.settle.specs.Keeping.Keeps P (opens p.slate.cells) x.kept) (sym em) st.keeps) st.largest (opens_low p.slate.cells p.slate.long) noted first in
       record {
         lawful = (a.lawful, a.outside, (D, a.standing, begin_done));
         within = refl;

@@ -19,8 +19,7 @@ use Rattle.subject.specs.Problem.{Problem, Real, Placed}
 use Rattle.subject.specs.Boxes.{Box}
 use Rattle.subject.specs.Decisions.{Largest}
 use Rattle.boxes.specs.Boxes as Cells
-use Rattle.subject.proofs.Bits.{ones_bit}
-use Rattle.boxes.specs.Boxes.{opens, Bit, Filled}
+use Rattle.boxes.specs.Boxes.{opens, Filled}
 use Rattle.boxes.proofs.Counting.{opens_is}
 use Rattle.binder.specs.declared.binders.Binder.{Ghosts}
 use Rattle.binder.specs.Meaning.{Binding, Cleared}
@@ -118,11 +117,6 @@ all_sheets m n r d = (
 first_largest : (P : Problem) (X Y : Box) → ((s o : ℕ) → Real P s o → T (X s o)) → Rattle.subject.specs.Boxes.LargestIn P X Y → Largest P [] Y
 first_largest P X Y all done t q =
     (λ h. let y = (done t q).0 h in (y.0, y.1, (λ u r k. tt), y.3), λ w. (done t q).1 (w.0, w.1, (λ u r k. all u r (w.1.real u r k)), w.3))
-
--- the set of all slots has each
-pub all_bits : (t : ℕ) → t < 48 → Bit 18446744073709551615 t
-unfolding Bit
-all_bits t h = ones_bit 64 t (omega arith)
 
 module _ (m : Binding) (n : ℕ) (sizes : List ℕ) (long : length sizes ≡ n) (few : n ≤ 48) where
   module _ (P : Problem) (e : P.sizes ≡ sizes) (has : Has P m) where

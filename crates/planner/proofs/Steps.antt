@@ -1,14 +1,11 @@
 -- What each call does to a planner, its binder and its log. Assumes nothing.
 use Rattle.std.proofs.Common.{◌≡◌, ℕ, suc, ◌+◌, ◌^◌, ◌<◌, ◌≤◌, Bool, T, ◌≢◌, ◌↔◌, List, [], ◌∷◌, length, get_or, take, set, sym, refl, ap, ◌∙◌, subst, subst₂, ⊎_elim, arith, length-take, get_or-take}
 use Rattle.std.proofs.lemmas.Bool.{cases_eq}
-use Rattle.subject.specs.declared.refusal.Refusal.{Refusal}
-use Rattle.subject.specs.declared.refusal.Refusal.TheVariants.{NoSlot, NoOption, NotOpen, TooManyTries, NoTry, ShortMemory}
-use Rattle.subject.specs.Refusals.{number_of}
 use Rattle.subject.specs.Problem.{Problem, Real, Placed}
 use Rattle.subject.specs.Boxes.{Inside, opened}
 use Rattle.subject.specs.Decisions.{Decision, tried, struck, Forbids, Open, Largest, tries, undone}
 use Rattle.subject.specs.Logs.{Log, Call, Answer, calls, decided, walking, given, Refuses, Bit, Reckoned, try, strike, back, look, count, bits, refused}
-use Rattle.subject.specs.Logs.{refuses, try_slot, try_option_lem, try_shut, strike_slot, strike_option, strike_shut, try_done, strike_done, back_done, look_done}
+use Rattle.subject.specs.Logs.{refuses, try_no_slot, try_no_option, try_shut, strike_no_slot, strike_no_option, strike_shut, try_done, strike_done, back_done, look_done}
 use Rattle.subject.specs.Law.{inside}
 use Rattle.subject.proofs.Bits.{small_bit}
 use Rattle.subject.proofs.Largest.{decide_largest}
@@ -19,13 +16,13 @@ use Rattle.boxes.specs.Boxes.{opens, Fixed, Closed}
 use Rattle.boxes.proofs.Bits.{open_same}
 use Rattle.boxes.proofs.Counting.{opens_is}
 use Rattle.binder.specs.declared.binders.Binder.{Ghosts}
-use Rattle.binder.specs.Meaning.{Binding, Alike, Noted, Undone}
+use Rattle.binder.specs.Meaning.{Binding, SameLists, Noted, Undone}
 use Rattle.boxes.specs.Slots.{Lone}
 use Rattle.settle.specs.Keeping.{Has, Keeps}
 use Rattle.settle.specs.Reach.{masks_of, Covers, Resting}
 use Rattle.settle.specs.Settled.{Settled}
-use Rattle.settle.proofs.Keeping.{keeps_less, keeps_same, has_framed, covers_has, resting_based, backed_largest}
-use Rattle.planner.specs.States.{Found, Shut, cells_at, Saved, Stands, After}
+use Rattle.settle.proofs.Keeping.{opens_low, keeps_less, keeps_same, has_framed, covers_has, resting_based, backed_largest}
+use Rattle.planner.specs.States.{Found, Shut, no_slot, no_option, not_open, cells_at, Saved, Stands, After}
 use Rattle.planner.specs.declared.state.Planner.{Planner}
 use Rattle.planner.proofs.Tables.{cells_same, cells_other}
 
@@ -75,7 +72,7 @@ saved_set P (struck s o ∷ D) saved marked d j b k h = saved_set P D saved mark
 
 -- nor do marks at or past the depth
 pub saved_marked : (P : Problem) (D : List Decision) (saved : List OptionBox) (marked marked' : ℕ → ℕ → List ℕ → Bool) (d : ℕ)
-    → ((i s : ℕ) → i < d → Alike (marked' i s) (marked i s)) → Saved P D saved marked d → Saved P D saved marked' d
+    → ((i s : ℕ) → i < d → SameLists (marked' i s) (marked i s)) → Saved P D saved marked d → Saved P D saved marked' d
 saved_marked P [] saved marked marked' d f h = h
 saved_marked P (tried s o ∷ D) saved marked marked' d f h =
     (h.0, h.1, h.2, keeps_same P _ _ _ (λ s'. f h.0 s' (omega (arith, h.1))) h.3, saved_marked P D saved marked marked' h.0 (λ i s' lt. f i s' (omega (arith, h.1))) h.4)
@@ -122,23 +119,17 @@ module _ {B : Type 0} {bound : Ghosts B} (meaning : B → Binding) (P : Problem)
   }
 
   -- why an option cannot be had, in the words of the problem
-  pub shut_try : (L : Log) (p : Planner B bound) (s o : ℕ) (e : Refusal) (a : After meaning P L p) → Shut p.slots p.slate.cells s o e → Refuses P a.decisions (try s o) (number_of e)
-  shut_try L p s o NoSlot a h = try_slot (omega (arith, h, slots_are _ p a.stands))
-  shut_try L p s o NoOption a h = try_option_lem (omega (arith, h.0, slots_are _ p a.stands)) (omega (arith, h.1, size_is _ p s h.0 a.stands))
-  shut_try L p s o NotOpen a h =
-      try_shut (omega (arith, h.0, slots_are _ p a.stands), omega (arith, h.1, size_is _ p s h.0 a.stands)) (λ w. h.2 ((open_is _ p s o a.stands).1 w))
-  shut_try L p s o TooManyTries a h = absurd h
-  shut_try L p s o NoTry a h = absurd h
-  shut_try L p s o ShortMemory a h = absurd h
+  pub shut_try : (L : Log) (p : Planner B bound) (s o n : ℕ) (a : After meaning P L p) → Shut p.slots p.slate.cells s o n → Refuses P a.decisions (try s o) n
+  shut_try L p s o n a (no_slot h) = try_no_slot (omega (arith, h, slots_are _ p a.stands))
+  shut_try L p s o n a (no_option h k) = try_no_option (omega (arith, h, slots_are _ p a.stands)) (omega (arith, k, size_is _ p s h a.stands))
+  shut_try L p s o n a (not_open h k shut) =
+      try_shut (omega (arith, h, slots_are _ p a.stands), omega (arith, k, size_is _ p s h a.stands)) (λ w. shut ((open_is _ p s o a.stands).1 w))
 
-  pub shut_strike : (L : Log) (p : Planner B bound) (s o : ℕ) (e : Refusal) (a : After meaning P L p) → Shut p.slots p.slate.cells s o e → Refuses P a.decisions (strike s o) (number_of e)
-  shut_strike L p s o NoSlot a h = strike_slot (omega (arith, h, slots_are _ p a.stands))
-  shut_strike L p s o NoOption a h = strike_option (omega (arith, h.0, slots_are _ p a.stands)) (omega (arith, h.1, size_is _ p s h.0 a.stands))
-  shut_strike L p s o NotOpen a h =
-      strike_shut (omega (arith, h.0, slots_are _ p a.stands), omega (arith, h.1, size_is _ p s h.0 a.stands)) (λ w. h.2 ((open_is _ p s o a.stands).1 w))
-  shut_strike L p s o TooManyTries a h = absurd h
-  shut_strike L p s o NoTry a h = absurd h
-  shut_strike L p s o ShortMemory a h = absurd h
+  pub shut_strike : (L : Log) (p : Planner B bound) (s o n : ℕ) (a : After meaning P L p) → Shut p.slots p.slate.cells s o n → Refuses P a.decisions (strike s o) n
+  shut_strike L p s o n a (no_slot h) = strike_no_slot (omega (arith, h, slots_are _ p a.stands))
+  shut_strike L p s o n a (no_option h k) = strike_no_option (omega (arith, h, slots_are _ p a.stands)) (omega (arith, k, size_is _ p s h a.stands))
+  shut_strike L p s o n a (not_open h k shut) =
+      strike_shut (omega (arith, h, slots_are _ p a.stands), omega (arith, k, size_is _ p s h a.stands)) (λ w. shut ((open_is _ p s o a.stands).1 w))
 
   -- Any other call is decided.
   answered : (L : Log) (p q : Planner B bound) (c : Call) (x : Answer) (a : After meaning P L p) → walking (record { call = c; answer = x } ∷ L) ≡ walking L → inside c ≡ mathlib.Core.Bool.false
@@ -165,7 +156,7 @@ module _ {B : Type 0} {bound : Ghosts B} (meaning : B → Binding) (P : Problem)
     kept = keeps_less P _ _ _ less keeps
 
     rest : Resting m masks b lost
-    rest = resting_based P m masks b (opens p.slate.cells) lost has keeps (covers_has P m masks has covers) (record { inside = less; apart = off; backed = backed_largest P D (opens p.slate.cells) st.largest })
+    rest = resting_based P m masks b (opens p.slate.cells) lost has keeps (covers_has P m masks has covers) (record { inside = less; apart = off; backed = backed_largest P D (opens p.slate.cells) st.largest; low = opens_low p.slate.cells p.slate.long })
 
     decided_largest : Largest P (d ∷ D) (opens c)
     decided_largest = decide_largest P D d (opens p.slate.cells) (opens b) (opens c) st.largest cut (done.largest P has (slots_are D p st) placed real kept (covers_has P m masks has covers) rest)

@@ -1,7 +1,6 @@
 -- A log, and the planner that it was made of. Assumes nothing.
 use Rattle.std.specs.Prelude.{◌≡◌, ℕ, zero, suc, ◌<◌, ◌≤◌, Bool, false, List, [], ◌∷◌, length, take, Ok, Err, Result, slice_index}
 use Rattle.subject.specs.declared.refusal.Refusal.{Refusal}
-use Rattle.subject.specs.declared.refusal.Refusal.TheVariants.{NoSlot, NoOption, NotOpen, TooManyTries, NoTry, ShortMemory}
 use Rattle.subject.specs.Problem.{Problem}
 use Rattle.subject.specs.Boxes.{opened}
 use Rattle.subject.specs.Decisions.{Decision, tried, struck, Largest}
@@ -22,14 +21,11 @@ pub record Found (w : Slots) (c : List ℕ) (s o : ℕ) : Type 0 where
   pub option : o < slice_index w.sizes s
   pub is : Open c s o
 
--- why an option cannot be had, by the first reason that applies
-abbrev pub Shut : Slots → List ℕ → ℕ → ℕ → Refusal → Type 0
-Shut w c s o NoSlot = w.count ≤ s
-Shut w c s o NoOption = (s < w.count) × (slice_index w.sizes s ≤ o)
-Shut w c s o NotOpen = (s < w.count) × (o < slice_index w.sizes s) × (Open c s o → ⊥)
-Shut w c s o TooManyTries = ⊥
-Shut w c s o NoTry = ⊥
-Shut w c s o ShortMemory = ⊥
+-- why an option cannot be had, by the number of the first reason that applies
+pub data Shut (w : Slots) (c : List ℕ) (s o : ℕ) : ℕ → Type 0 where
+  no_slot : w.count ≤ s → Shut w c s o 21
+  no_option : s < w.count → slice_index w.sizes s ≤ o → Shut w c s o 22
+  not_open : s < w.count → o < slice_index w.sizes s → (Open c s o → ⊥) → Shut w c s o 23
 
 -- the answer is how many options the box opens; a refusal leaves the planner as it was
 abbrev pub Counted : {B : Type 0} {bound : Ghosts B} → Result ℕ Refusal → Planner B bound → Planner B bound → Type 0

@@ -1,7 +1,7 @@
 -- A log, and the walk that it has led to. Assumes nothing.
 use Rattle.std.specs.Prelude.{◌≡◌, ℕ, ◌<◌, ◌≤◌, true, List, [], length, take, Ok, Err, Result}
 use Rattle.subject.specs.declared.refusal.Refusal.{Refusal}
-use Rattle.subject.specs.declared.refusal.Refusal.TheVariants.{ShortMemory}
+use Rattle.subject.specs.Refusals.{number_of}
 use Rattle.subject.specs.Problem.{Problem}
 use Rattle.subject.specs.Decisions.{Decision}
 use Rattle.subject.specs.Plans.{Plan}
@@ -50,4 +50,4 @@ plan_slots w = w.planner.slots.count
 -- next refuses exactly a plan memory that is shorter than the number of slots, and then leaves the walk as it was
 abbrev pub Refused : {B : Type 0} {bound : Ghosts B} → Result Step Refusal → ℕ → Walk B bound → Walk B bound → Type 0
 Refused (Ok x) n before after = plan_slots before ≤ n
-Refused (Err e) n before after = (e ≡ ShortMemory) × (n < plan_slots before) × (after ≡ before)
+Refused (Err e) n before after = (number_of e ≡ 26) × (n < plan_slots before) × (after ≡ before)

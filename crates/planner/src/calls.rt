@@ -1,5 +1,6 @@
 // The planner's calls: try, strike, back and look.
 ghost use Rattle.std.specs.Prelude.{◌≡◌, MatchResult};
+ghost use Rattle.subject.specs.Refusals.{number_of};
 ghost use Rattle.planner.specs.Answers.{try_entry, strike_entry, back_entry, look_entry};
 ghost use Rattle.planner.specs.States.{Carries, Found, Shut, Counted};
 
@@ -18,7 +19,7 @@ const TRIES: usize = 16;
 impl<B: Binder> Planner<B> {
     // The option, if there is one and it is open; else the first reason why it cannot be had.
     fn open_option(&self, slot: usize, option: usize) -> Result<u8, Refusal>
-        ensures { MatchResult result (λ o. (o ≡ option) × Found self.now.slots self.now.slate.cells slot option) (λ e. Shut self.now.slots self.now.slate.cells slot option e) }
+        ensures { MatchResult result (λ o. (o ≡ option) × Found self.now.slots self.now.slate.cells slot option) (λ e. Shut self.now.slots self.now.slate.cells slot option (number_of e)) }
     {
         if slot >= self.slots.count {
             return Err(Refusal::NoSlot);

@@ -8,7 +8,7 @@ use crate::state::{Planner, Slots};
 use binder::binders::Binder;
 use binder::clear::undo_all;
 use boxes::OptionBox;
-use boxes::slots::ALL_SLOTS;
+use boxes::slots::all_slots;
 use catalogue::checked::Catalogue;
 use settle::reach::Reach;
 use settle::settle;
@@ -58,7 +58,7 @@ fn first_box<B: Binder>(binder: &mut B, reach: &Reach, slots: &Slots) -> OptionB
         return OptionBox::none();
     }
     let mut slate = OptionBox::full(&slots.sizes[..slots.count]);
-    settle(binder, reach, slots.count, ALL_SLOTS, &mut slate);
+    settle(binder, reach, slots.count, all_slots(), &mut slate);
     slate
 }
 

@@ -1,5 +1,6 @@
 // Whole files at the limits, to see that they are taken and how long that takes.
 ghost use Rattle.std.specs.Prelude.{◌≡◌, ◌+◌, ◌*◌, ◌<◌, ◌≤◌, length, IfOk, vec_len};
+ghost use Rattle.catalogue.specs.declared.checked.TheConstants.{LONGEST};
 
 use crate::draft::Draft;
 use std::alloc::{AllocError, Global};
@@ -93,9 +94,9 @@ pub fn one_sheet(heap: Global, rows: u16) -> Result<Draft, AllocError>
 }
 
 // A file with as much of everything as a catalogue may have: 48 slots of 32 options, 64 sheets of
-// eight slots, 8 of them load sheets with 256 weights each, and 4,096 rows.
+// eight slots, 8 of them load sheets with 256 weights each, and 4,096 rows. No accepted file has more bytes.
 pub fn largest(heap: Global) -> Result<Draft, AllocError>
-    ensures { IfOk result (λ d. vec_len d.bytes ≡ 47873) }
+    ensures { IfOk result (λ d. vec_len d.bytes ≡ LONGEST) }
 {
     let draft = Draft::new(heap).slots(48, 32)?;
     let draft = draft.fit_sheets(40)?.bar_sheets(16)?;

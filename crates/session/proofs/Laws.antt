@@ -12,21 +12,21 @@ use Rattle.boxes.specs.Boxes.{opens}
 use Rattle.binder.specs.declared.binders.Binder.{Ghosts}
 use Rattle.binder.specs.Meaning.{Binding}
 use Rattle.session.specs.Runs.{logged, Kept}
-use Rattle.session.specs.Law.{Held, box_of, Law, Ran}
+use Rattle.session.specs.Law.{Led, box_of, Law, Ran}
 use Rattle.session.specs.Running.{Running}
 use Rattle.session.specs.declared.state.Session.{Session}
 use Rattle.session.specs.declared.state.Session.TheVariants.{Outside, Inside}
 
 module _ {B : Type 0} {bound : Ghosts B} (meaning : B → Binding) (P : Problem) (L : Log) where
-  held_lawful : (s : Session B bound) → Held meaning P L s → Lawful P L
+  held_lawful : (s : Session B bound) → Led meaning P L s → Lawful P L
   held_lawful (Outside p) h = h.lawful
   held_lawful (Inside w) h = h.lawful
 
-  held_largest : (s : Session B bound) → Held meaning P L s → (D : List Decision) → walking L ≡ false → Standing P (calls L) D → Largest P D (box_of s)
+  held_largest : (s : Session B bound) → Led meaning P L s → (D : List Decision) → walking L ≡ false → Standing P (calls L) D → Largest P D (box_of s)
   held_largest (Outside p) h D out st = subst (λ E. Largest P E (opens p.slate.cells)) (determinate P (calls L) h.decisions D h.standing st) h.stands.largest
   held_largest (Inside w) h D out st = absurd (true≢false (sym h.within ∙ out))
 
-  pub held_law : (s : Session B bound) → Held meaning P L s → Law P L s
+  pub held_law : (s : Session B bound) → Led meaning P L s → Law P L (box_of s)
   held_law s h = record {
     lawful = held_lawful s h;
     largest = held_largest s h;
@@ -35,7 +35,7 @@ module _ {B : Type 0} {bound : Ghosts B} (meaning : B → Binding) (P : Problem)
 
 -- a run of all lines
 pub ran : {B : Type 0} {bound : Ghosts B} (meaning : B → Binding) (P : Problem) (L : Log) (lines : List (Option Call)) (before after : List Reply) (k : ℕ) (s t : Session B bound) (m m' : List ℕ)
-    → Running meaning lines k before after s t m m' → Held meaning P L s → Ran meaning P L lines after k (length m) t
+    → Running meaning lines k before after s t m m' → Led meaning P L s → Ran meaning P L lines after k (length m) t
 ran meaning P L lines before after k s t m m' run was =
     let held = run.held P L was in
     record { held = held; law = held_law meaning P (logged (length m) lines after k L) t held; fitting = λ i lt. run.fitting P L was i lt }

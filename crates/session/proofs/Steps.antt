@@ -9,7 +9,7 @@ use Rattle.subject.specs.Logs.{Log}
 use Rattle.binder.specs.declared.binders.Binder.{Ghosts}
 use Rattle.binder.specs.Meaning.{Binding}
 use Rattle.session.specs.Runs.{entered, logged, Fitting, overlaid, remembered}
-use Rattle.session.specs.Law.{Held}
+use Rattle.session.specs.Law.{Led}
 use Rattle.session.specs.Running.{Replied, Running}
 use Rattle.session.specs.declared.state.Session.{Session}
 
@@ -50,10 +50,10 @@ module _ {B : Type 0} {bound : Ghosts B} (meaning : B → Binding) (lines : List
     front : (n : ℕ) (L : Log) (k : ℕ) → k ≤ at → logged n lines (set rs at r) k L ≡ logged n lines rs k L
     front n L k h = logged_same n k lines rs (set rs at r) L (λ i l. other i (omega arith))
 
-    entered_on : (P : Problem) (L : Log) → Held meaning P L t → Held meaning P (entered (length m0) (get_or lines at None) r L) u
-    entered_on P L h = subst (λ n. Held meaning P (entered n (get_or lines at None) r L) u) was.long.1 (more.enters P L h)
+    entered_on : (P : Problem) (L : Log) → Led meaning P L t → Led meaning P (entered (length m0) (get_or lines at None) r L) u
+    entered_on P L h = subst (λ n. Led meaning P (entered n (get_or lines at None) r L) u) was.long.1 (more.enters P L h)
 
-    fit_at : (P : Problem) (L : Log) → Held meaning P L s
+    fit_at : (P : Problem) (L : Log) → Led meaning P L s
         → (i : ℕ) → i < at + 1 → Fitting (get_or lines i None) (get_or (set rs at r) i (Err NotPossible)) (logged (length m0) lines (set rs at r) i L)
     fit_at P L h i k =
         ⊎_elim
@@ -69,6 +69,6 @@ module _ {B : Type 0} {bound : Ghosts B} (meaning : B → Binding) (lines : List
       memory = rw (add-one at)
           (more.memory ∙ (λ j. overlaid (sym here j) ((was.memory ∙ sym (remembered_same at rs (set rs at r) m0 (λ i l. other i (omega arith)))) j)));
       held = λ P L h. rw (add-one at)
-          (subst₂ (λ x M. Held meaning P (entered (length m0) (get_or lines at None) x M) u) (sym here) (sym (front (length m0) L at (omega arith))) (entered_on P _ (was.held P L h)));
+          (subst₂ (λ x M. Led meaning P (entered (length m0) (get_or lines at None) x M) u) (sym here) (sym (front (length m0) L at (omega arith))) (entered_on P _ (was.held P L h)));
       fitting = fit_at;
     }

@@ -10,7 +10,7 @@ use Rattle.subject.specs.Logs.{Log}
 use Rattle.binder.specs.declared.binders.Binder.{Ghosts}
 use Rattle.binder.specs.Meaning.{Binding}
 use Rattle.session.specs.Runs.{logged, entered, Fitting, overlaid, remembered}
-use Rattle.session.specs.Law.{Held}
+use Rattle.session.specs.Law.{Led}
 use Rattle.session.specs.declared.state.Session.{Session}
 use Rattle.session.specs.declared.state.Session.TheVariants.{Outside, Inside}
 
@@ -22,8 +22,8 @@ Crosses (Inside w) line = line ≡ Some End
 -- The session s was replied to the line by r, and became t; the plan memory m became m'.
 pub record Replied {B : Type 0} {bound : Ghosts B} (meaning : B → Binding) (line : Option Call) (r : Reply) (s t : Session B bound) (m m' : List ℕ) : Type 0 where
   pub memory : m' ≡ overlaid r m
-  pub enters : (P : Problem) (L : Log) → Held meaning P L s → Held meaning P (entered (length m) line r L) t
-  pub fits : (P : Problem) (L : Log) → Held meaning P L s → Fitting line r L
+  pub enters : (P : Problem) (L : Log) → Led meaning P L s → Led meaning P (entered (length m) line r L) t
+  pub fits : (P : Problem) (L : Log) → Led meaning P L s → Fitting line r L
 
 -- the begin or end was made
 abbrev pub Crossed : {B : Type 0} {bound : Ghosts B} → (B → Binding) → Session B bound → Session B bound → Type 0
@@ -35,6 +35,6 @@ pub record Running {B : Type 0} {bound : Ghosts B} (meaning : B → Binding) (li
   pub long : (length after ≡ length before) × (length m' ≡ length m)
   pub past : (i : ℕ) → to ≤ i → slice_index_or after i (Err NotPossible) ≡ slice_index_or before i (Err NotPossible)
   pub memory : m' ≡ remembered after to m
-  pub held : (P : Problem) (L : Log) → Held meaning P L s → Held meaning P (logged (length m) lines after to L) t
-  pub fitting : (P : Problem) (L : Log) → Held meaning P L s
+  pub held : (P : Problem) (L : Log) → Led meaning P L s → Led meaning P (logged (length m) lines after to L) t
+  pub fitting : (P : Problem) (L : Log) → Led meaning P L s
       → (i : ℕ) → i < to → Fitting (slice_index_or lines i None) (slice_index_or after i (Err NotPossible)) (logged (length m) lines after i L)

@@ -3,7 +3,8 @@ ghost use Rattle.std.specs.Prelude.{ℕ, min, List, [], length};
 ghost use Rattle.subject.specs.Problem.{Problem};
 ghost use Rattle.subject.specs.Logs.{Log};
 ghost use Rattle.planner.specs.Opening.{slots_in, posed};
-ghost use Rattle.session.specs.Law.{Held, Ran};
+ghost use Rattle.planner.specs.States.{After};
+ghost use Rattle.session.specs.Law.{Led, Ran};
 ghost use Rattle.session.specs.Runs.{Kept};
 
 use crate::state::Session;
@@ -14,11 +15,18 @@ use subject::answer::{Answer, Reply};
 use subject::call::Call;
 
 impl<B: Binder> Session<B> {
+    // A session outside walks with a planner that was opened: wherever calls have led the planner, they have led the session.
+    pub fn of(planner: Planner<B>) -> Session<B>
+        ensures { (P : Problem) (L : Log) → After B.Binder.meaning P L planner → Led B.Binder.meaning P L result }
+    {
+        Session::Outside(planner)
+    }
+
     // Opens a planner on the slots of a checked catalogue and a binder, outside walks.
     pub fn open(catalogue: &Catalogue, binder: B) -> Session<B>
-        ensures { Held B.Binder.meaning (posed (slots_in catalogue.now.bytes.now) (B.Binder.meaning binder)) [] result }
+        ensures { Led B.Binder.meaning (posed (slots_in catalogue.now.bytes.now) (B.Binder.meaning binder)) [] result }
     {
-        Session::Outside(Planner::open(catalogue, binder))
+        Session::of(Planner::open(catalogue, binder))
     }
 
     // Replies to one line after another, as many as there are both lines and replies. A line is a call, or none
@@ -29,7 +37,7 @@ impl<B: Binder> Session<B> {
         replies: &mut [Reply],
         memory: &mut [u8],
     ) -> Session<B>
-        ensures law { (P : Problem) (L : Log) → Held B.Binder.meaning P L self → Ran B.Binder.meaning P L lines.now replies.new (min (length lines.now) (length replies.old)) (length memory.old) result }
+        ensures law { (P : Problem) (L : Log) → Led B.Binder.meaning P L self → Ran B.Binder.meaning P L lines.now replies.new (min (length lines.now) (length replies.old)) (length memory.old) result }
         ensures kept { Kept (min (length lines.now) (length replies.old)) replies.old replies.new memory.old memory.new }
     {
         let count = lines.len().min(replies.len());

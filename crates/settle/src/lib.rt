@@ -34,8 +34,8 @@ fn alive(slate: &OptionBox, slots: usize) -> bool
 }
 
 // Shows the sheets that name a lost slot, then those that name a slot which is lost by that, and so on, until nothing
-// closes. What is open has to be held by the other sheets, so that they need not be asked. Where a slot has no
-// open option left, no supported box is, and the whole box is closed.
+// closes. Where a slot has no open option left, no supported box is, and the whole box is closed. A sheet that names no lost
+// slot has to hold what is open, so that it need not be asked; where one does not, the others are served all the same.
 pub fn settle<B: Binder>(
     binder: &mut B,
     reach: &Reach,

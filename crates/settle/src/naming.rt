@@ -1,6 +1,6 @@
 // Asks a binder which slots its sheets name, and the table which sheets name a slot of a set.
 ghost use Rattle.std.specs.Prelude.{ℕ, Decides, slice_index};
-ghost use Rattle.boxes.specs.Slots.{Apart};
+ghost use Rattle.boxes.specs.Slots.{Disjoint};
 ghost use Rattle.settle.specs.Reach.{masks_of, Named};
 
 use crate::reach::Reach;
@@ -8,7 +8,8 @@ use binder::binders::Binder;
 use boxes::SLOTS;
 use boxes::slots::{apart, with_slot};
 
-// The slots that a sheet names; none where there is no such sheet.
+// The slots that a sheet names, as far as a box covers them; none where there is no such sheet. A slot of a higher number has
+// nothing open, and so never loses anything: it is no reason to ask the sheet again.
 fn slots_named<B: Binder>(binder: &B, sheet: usize) -> u64
     ensures { Named (B.Binder.meaning binder.now) sheet result }
 {
@@ -33,7 +34,7 @@ impl Reach {
 
     // Whether a sheet names no slot of a set.
     pub(crate) fn spares(&self, sheet: usize, set: u64) -> bool
-        ensures { Decides result (Apart (slice_index self.now.masks sheet) set) }
+        ensures { Decides result (Disjoint (slice_index self.now.masks sheet) set) }
     {
         apart(self.masks.get(sheet).copied().unwrap_or(0), set)
     }

@@ -39,15 +39,15 @@ good_scope options t few g =
 
 -- the scope of each sheet of a table is one
 module _ (m : Make) (views : List View) (n : ℕ) (taken : ∥ Taken m views n ∥₁) (few : n ≤ length views) where
-  scope_of : (s : ℕ) → s < n → Taken m views n → GoodScope (shown_at views s).scope
-  scope_of s l t =
+  scope_good : (s : ℕ) → s < n → Taken m views n → GoodScope (shown_at views s).scope
+  scope_good s l t =
       let a = at m views n t s l few in
       subst GoodScope (sym (ap (λ v. v.scope) a.shows)) (good_scope t.options a.sheet t.slots a.good)
 
   pub scope_at : (s : ℕ) → s < n → GoodScope (shown_at views s).scope
   scope_at s l = record {
-    some = ∥∥₁_elim taken le_prop (λ t. (scope_of s l t).some);
-    short = ∥∥₁_elim taken le_prop (λ t. (scope_of s l t).short);
-    covered = λ p h. ∥∥₁_elim taken le_prop (λ t. (scope_of s l t).covered p h);
-    apart = λ p q h j e. ∥∥₁_elim taken (λ f g. absurd f) (λ t. (scope_of s l t).apart p q h j e);
+    some = ∥∥₁_elim taken le_prop (λ t. (scope_good s l t).some);
+    short = ∥∥₁_elim taken le_prop (λ t. (scope_good s l t).short);
+    covered = λ p h. ∥∥₁_elim taken le_prop (λ t. (scope_good s l t).covered p h);
+    apart = λ p q h j e. ∥∥₁_elim taken (λ f g. absurd f) (λ t. (scope_good s l t).apart p q h j e);
   }

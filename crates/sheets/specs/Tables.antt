@@ -6,8 +6,6 @@ use Rattle.catalogue.specs.declared.make.Make.{Make}
 use Rattle.catalogue.specs.declared.view.View.{View}
 use Rattle.catalogue.specs.Content.{Sheet, Content, GoodSheet, rows_in, loads_in}
 use Rattle.catalogue.specs.Views.{of_make, Shown, showing, shown_by}
-use Rattle.binder.specs.declared.refusal.Refusal.{Refusal}
-use Rattle.binder.specs.declared.refusal.Refusal.TheVariants.{NotThere}
 
 -- what the first views show
 abbrev pub shown_in : List View → ℕ → List Shown
@@ -20,16 +18,16 @@ shown_at (v ∷ vs) zero = shown_by v
 shown_at (v ∷ vs) (suc s) = shown_at vs s
 
 -- The first n views are sheets: the scope of sheet s, how many slots that names, and the slot at one of its positions;
--- past the last sheet there is no scope.
+-- past the last sheet there is no scope. In the place of a refusal stands its number.
 abbrev pub scope_in : List View → ℕ → ℕ → List ℕ
 scope_in views n s = cond (nat_lt s n) (shown_at views s).scope []
 
-abbrev pub arity_in : List View → ℕ → ℕ → Result ℕ Refusal
-arity_in views n s = cond (nat_lt s n) (Ok (length (scope_in views n s))) (Err NotThere)
+abbrev pub arity_in : List View → ℕ → ℕ → Result ℕ ℕ
+arity_in views n s = cond (nat_lt s n) (Ok (length (scope_in views n s))) (Err 31)
 
-abbrev pub slot_in : List View → ℕ → ℕ → ℕ → Result ℕ Refusal
+abbrev pub slot_in : List View → ℕ → ℕ → ℕ → Result ℕ ℕ
 slot_in views n s p =
-    cond (nat_lt s n) (cond (nat_lt p (length (scope_in views n s))) (Ok (slice_index (scope_in views n s) p)) (Err NotThere)) (Err NotThere)
+    cond (nat_lt s n) (cond (nat_lt p (length (scope_in views n s))) (Ok (slice_index (scope_in views n s) p)) (Err 31)) (Err 31)
 
 -- the views show sheets of one make that some sound catalogue has
 pub record Taken (m : Make) (views : List View) (n : ℕ) : Type 0 where

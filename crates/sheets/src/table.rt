@@ -1,13 +1,13 @@
 // The sheets of one make, as a checked catalogue shows them: what every make of binder stands on.
 ghost use Rattle.std.specs.Prelude.{◌≡◌, ◌<◌, ◌≤◌, [], length, MatchResult};
-ghost use Rattle.binder.specs.declared.refusal.Refusal.TheVariants.{NotThere};
+ghost use Rattle.binder.specs.Refusals.{number_of, numbered};
 ghost use Rattle.catalogue.specs.Views.{shown_by};
 ghost use Rattle.sheets.specs.Tables.{Taken, shown_at, arity_in, slot_in};
 ghost use Rattle.sheets.specs.Opened.{shown_of};
 
 use crate::scope::Scope;
 use crate::sheet::Sheet;
-use binder::refusal::Refusal;
+use binder::refusal::BinderRefusal;
 use catalogue::make::Make;
 use catalogue::view::View;
 
@@ -26,7 +26,7 @@ pub(crate) fn no_view<'a>() -> View<'a>
 // them. They stand in a table of all that there can be, since memory is fixed: the library takes none from a
 // heap, and an `ArrayVec` is not `Copy`.
 #[derive(Clone, Copy)]
-pub struct Sheets<'a> {
+pub struct SheetTable<'a> {
     pub make: Make,
     pub views: [View<'a>; 64],
     pub count: usize,
@@ -35,7 +35,7 @@ pub struct Sheets<'a> {
     ghost taken: { ∥ Taken make views count ∥₁ },
 }
 
-impl<'a> Sheets<'a> {
+impl<'a> SheetTable<'a> {
     // Sheet s, counted from 0; what lies past the last of the table shows nothing. It cannot fail, as promised;
     // `sheet` stands beside it.
     pub fn view(&self, s: usize) -> View<'a>
@@ -45,12 +45,12 @@ impl<'a> Sheets<'a> {
     }
 
     // Sheet s, counted from 0, if there is one.
-    pub fn sheet(&self, s: usize) -> Result<Sheet<'a>, Refusal>
+    pub fn sheet(&self, s: usize) -> Result<Sheet<'a>, BinderRefusal>
         ensures { MatchResult result (λ sheet. (s < self.now.count) × (shown_of sheet ≡ shown_at self.now.views s))
-            (λ e. (e ≡ NotThere) × (self.now.count ≤ s)) }
+            (λ e. (number_of e ≡ 31) × (self.now.count ≤ s)) }
     {
         if s >= self.count {
-            return Err(Refusal::NotThere);
+            return Err(BinderRefusal::NotThere);
         }
         let view = self.view(s);
         Ok(Sheet {
@@ -61,21 +61,21 @@ impl<'a> Sheets<'a> {
     }
 
     // How many slots a sheet names.
-    pub fn arity(&self, s: usize) -> Result<usize, Refusal>
-        ensures { result ≡ arity_in self.now.views self.now.count s }
+    pub fn arity(&self, s: usize) -> Result<usize, BinderRefusal>
+        ensures { numbered result ≡ arity_in self.now.views self.now.count s }
     {
         let sheet = self.sheet(s)?;
         Ok(sheet.scope.slots.len())
     }
 
     // The slot at a position of a sheet's scope.
-    pub fn slot_at(&self, s: usize, position: usize) -> Result<usize, Refusal>
-        ensures { result ≡ slot_in self.now.views self.now.count s position }
+    pub fn slot_at(&self, s: usize, position: usize) -> Result<usize, BinderRefusal>
+        ensures { numbered result ≡ slot_in self.now.views self.now.count s position }
     {
         let sheet = self.sheet(s)?;
         match sheet.scope.slots.get(position) {
             Some(slot) => Ok(usize::from(*slot)),
-            None => Err(Refusal::NotThere),
+            None => Err(BinderRefusal::NotThere),
         }
     }
 }

@@ -4,13 +4,13 @@ ghost use Rattle.catalogue.specs.Verdict.{content};
 ghost use Rattle.catalogue.specs.Views.{showing};
 ghost use Rattle.sheets.specs.Tables.{shown_in, shown_at, sheets_in};
 
-use crate::table::{Sheets, no_view};
+use crate::table::{SheetTable, no_view};
 use catalogue::checked::Catalogue;
 use catalogue::make::Make;
 
 // All sheets of a make, in the file's order. The rest of the table shows nothing.
 #[tactic(auto, using(crate::proofs::Chosen::count_few))]
-pub fn sheets_of<'a>(catalogue: &Catalogue<'a>, make: Make) -> Sheets<'a>
+pub fn sheets_of<'a>(catalogue: &Catalogue<'a>, make: Make) -> SheetTable<'a>
     ensures is { shown_in result.views result.count ≡ map showing (sheets_in (content catalogue.now.bytes.now) make) }
     ensures make { result.make ≡ make }
     ensures rest { (s : ℕ) → result.count ≤ s → shown_at result.views s ≡ shown_at [] 0 }
@@ -25,5 +25,5 @@ pub fn sheets_of<'a>(catalogue: &Catalogue<'a>, make: Make) -> Sheets<'a>
             views[i] = view;
         }
     }
-    Sheets { make, views, count }
+    SheetTable { make, views, count }
 }

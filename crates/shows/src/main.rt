@@ -5,7 +5,7 @@ mod compare;
 mod files;
 mod reckon;
 
-use bar::bars::Bar;
+use bar::Bar;
 use binder::join::Join;
 use catalogue::checked::Catalogue;
 use catalogue::make::Make;

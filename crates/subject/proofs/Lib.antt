@@ -2,3 +2,4 @@ pub mod Bits
 pub mod Standing
 pub mod Largest
 pub mod Moments
+pub mod Numbers

@@ -7,7 +7,7 @@ use Rattle.subject.specs.Decisions.{Decision, Agree, Open}
 use Rattle.subject.specs.Plans.{Plan, Meets, Before, First}
 use Rattle.subject.specs.Logs.{Call, Answer, Entry, Log, calls, decided, Then, Standing, walking, given, Reckoned, refuses}
 use Rattle.subject.specs.Logs.{try, strike, back, begin, end, look, next, count, bits, refused, plan, none, done}
-use Rattle.subject.specs.Logs.{look_slot, look_done, begin_done, end_done, next_short, next_plan, next_none}
+use Rattle.subject.specs.Logs.{look_no_slot, look_done, begin_done, end_done, next_short, next_plan, next_none}
 use Rattle.subject.specs.Law.{Quiet, Looking, inside, Alike}
 use Rattle.subject.proofs.Standing.{determinate}
 use Rattle.subject.proofs.Bits.{same_bits}
@@ -90,9 +90,9 @@ module _ (P Q : Problem) (D E : List Decision) (G H : List Plan) (e : Same P Q) 
       ]
 
   look_same : (s : ℕ) (a b : Answer) → Reckoned P D G (look s) a → Reckoned Q E H (look s) b → a ≡ b
-  look_same s a b (refuses (look_slot h)) (refuses (look_slot k)) = refl
-  look_same s a b (refuses (look_slot h)) (look_done k m g) = absurd (omega (arith, len))
-  look_same s a b (look_done h m g) (refuses (look_slot k)) = absurd (omega (arith, len))
+  look_same s a b (refuses (look_no_slot h)) (refuses (look_no_slot k)) = refl
+  look_same s a b (refuses (look_no_slot h)) (look_done k m g) = absurd (omega (arith, len))
+  look_same s a b (look_done h m g) (refuses (look_no_slot k)) = absurd (omega (arith, len))
   look_same s a b (look_done h m g) (look_done k n j) =
       ap bits (same_bits 32 _ _ m n (λ o. (λ t. (j o).1 (open_to P Q D E e f s o ((g o).0 t)), λ t. (g o).1 (open_to Q P E D back_e back_f s o ((j o).0 t)))))
 

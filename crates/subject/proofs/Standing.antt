@@ -5,7 +5,7 @@ use Rattle.subject.specs.Decisions.{Decision, Open, tries}
 use Rattle.subject.specs.Plans.{Plan}
 use Rattle.subject.specs.Logs.{Call, Answer, decided, given, Refuses, Then, Standing, Reckoned}
 use Rattle.subject.specs.Logs.{try, strike, back, begin, end, look, next, refused}
-use Rattle.subject.specs.Logs.{try_slot, try_option_lem, try_shut, try_full, strike_slot, strike_option, strike_shut, back_none, look_slot, next_short}
+use Rattle.subject.specs.Logs.{try_no_slot, try_no_option, try_shut, try_full, strike_no_slot, strike_no_option, strike_shut, back_none, look_no_slot, next_short}
 use Rattle.subject.specs.Logs.{refuses, try_done, strike_done, back_done, look_done, begin_done, end_done, next_plan, next_none}
 use Rattle.subject.specs.Law.{Determinate, Fair}
 
@@ -15,54 +15,54 @@ open_real P D s o w = w.1.real s o w.3
 module _ (P : Problem) (D : List Decision) where
   -- a call has one refusal at most
   pub one_refusal : (c : Call) (n m : ℕ) → Refuses P D c n → Refuses P D c m → n ≡ m
-  one_refusal (try s o) n m (try_slot a) (try_slot b) = refl
-  one_refusal (try s o) n m (try_slot a) (try_option_lem b e) = absurd (omega arith)
-  one_refusal (try s o) n m (try_slot a) (try_shut b e) = absurd (omega (arith, b.0))
-  one_refusal (try s o) n m (try_slot a) (try_full b e) = absurd (omega (arith, (open_real P D s o b).0))
-  one_refusal (try s o) n m (try_option_lem a d) (try_slot b) = absurd (omega arith)
-  one_refusal (try s o) n m (try_option_lem a d) (try_option_lem b e) = refl
-  one_refusal (try s o) n m (try_option_lem a d) (try_shut b e) = absurd (omega (arith, b.1))
-  one_refusal (try s o) n m (try_option_lem a d) (try_full b e) = absurd (omega (arith, (open_real P D s o b).1))
-  one_refusal (try s o) n m (try_shut a d) (try_slot b) = absurd (omega (arith, a.0))
-  one_refusal (try s o) n m (try_shut a d) (try_option_lem b e) = absurd (omega (arith, a.1))
+  one_refusal (try s o) n m (try_no_slot a) (try_no_slot b) = refl
+  one_refusal (try s o) n m (try_no_slot a) (try_no_option b e) = absurd (omega arith)
+  one_refusal (try s o) n m (try_no_slot a) (try_shut b e) = absurd (omega (arith, b.0))
+  one_refusal (try s o) n m (try_no_slot a) (try_full b e) = absurd (omega (arith, (open_real P D s o b).0))
+  one_refusal (try s o) n m (try_no_option a d) (try_no_slot b) = absurd (omega arith)
+  one_refusal (try s o) n m (try_no_option a d) (try_no_option b e) = refl
+  one_refusal (try s o) n m (try_no_option a d) (try_shut b e) = absurd (omega (arith, b.1))
+  one_refusal (try s o) n m (try_no_option a d) (try_full b e) = absurd (omega (arith, (open_real P D s o b).1))
+  one_refusal (try s o) n m (try_shut a d) (try_no_slot b) = absurd (omega (arith, a.0))
+  one_refusal (try s o) n m (try_shut a d) (try_no_option b e) = absurd (omega (arith, a.1))
   one_refusal (try s o) n m (try_shut a d) (try_shut b e) = refl
   one_refusal (try s o) n m (try_shut a d) (try_full b e) = absurd (d b)
-  one_refusal (try s o) n m (try_full a d) (try_slot b) = absurd (omega (arith, (open_real P D s o a).0))
-  one_refusal (try s o) n m (try_full a d) (try_option_lem b e) = absurd (omega (arith, (open_real P D s o a).1))
+  one_refusal (try s o) n m (try_full a d) (try_no_slot b) = absurd (omega (arith, (open_real P D s o a).0))
+  one_refusal (try s o) n m (try_full a d) (try_no_option b e) = absurd (omega (arith, (open_real P D s o a).1))
   one_refusal (try s o) n m (try_full a d) (try_shut b e) = absurd (e a)
   one_refusal (try s o) n m (try_full a d) (try_full b e) = refl
-  one_refusal (strike s o) n m (strike_slot a) (strike_slot b) = refl
-  one_refusal (strike s o) n m (strike_slot a) (strike_option b e) = absurd (omega arith)
-  one_refusal (strike s o) n m (strike_slot a) (strike_shut b e) = absurd (omega (arith, b.0))
-  one_refusal (strike s o) n m (strike_option a d) (strike_slot b) = absurd (omega arith)
-  one_refusal (strike s o) n m (strike_option a d) (strike_option b e) = refl
-  one_refusal (strike s o) n m (strike_option a d) (strike_shut b e) = absurd (omega (arith, b.1))
-  one_refusal (strike s o) n m (strike_shut a d) (strike_slot b) = absurd (omega (arith, a.0))
-  one_refusal (strike s o) n m (strike_shut a d) (strike_option b e) = absurd (omega (arith, a.1))
+  one_refusal (strike s o) n m (strike_no_slot a) (strike_no_slot b) = refl
+  one_refusal (strike s o) n m (strike_no_slot a) (strike_no_option b e) = absurd (omega arith)
+  one_refusal (strike s o) n m (strike_no_slot a) (strike_shut b e) = absurd (omega (arith, b.0))
+  one_refusal (strike s o) n m (strike_no_option a d) (strike_no_slot b) = absurd (omega arith)
+  one_refusal (strike s o) n m (strike_no_option a d) (strike_no_option b e) = refl
+  one_refusal (strike s o) n m (strike_no_option a d) (strike_shut b e) = absurd (omega (arith, b.1))
+  one_refusal (strike s o) n m (strike_shut a d) (strike_no_slot b) = absurd (omega (arith, a.0))
+  one_refusal (strike s o) n m (strike_shut a d) (strike_no_option b e) = absurd (omega (arith, a.1))
   one_refusal (strike s o) n m (strike_shut a d) (strike_shut b e) = refl
   one_refusal back n m (back_none a) (back_none b) = refl
-  one_refusal (look s) n m (look_slot a) (look_slot b) = refl
+  one_refusal (look s) n m (look_no_slot a) (look_no_slot b) = refl
   one_refusal (next k) n m (next_short a) (next_short b) = refl
   one_refusal begin n m x y = elim x [ ]
   one_refusal end n m x y = elim x [ ]
 
   -- a call that is done is not refused
   pub free_try : (s o n : ℕ) → Open P D s o → tries D < 16 → Refuses P D (try s o) n → ⊥
-  free_try s o n w t (try_slot a) = omega (arith, (open_real P D s o w).0)
-  free_try s o n w t (try_option_lem a d) = omega (arith, (open_real P D s o w).1)
+  free_try s o n w t (try_no_slot a) = omega (arith, (open_real P D s o w).0)
+  free_try s o n w t (try_no_option a d) = omega (arith, (open_real P D s o w).1)
   free_try s o n w t (try_shut a d) = d w
   free_try s o n w t (try_full a d) = omega arith
 
   pub free_strike : (s o n : ℕ) → Open P D s o → Refuses P D (strike s o) n → ⊥
-  free_strike s o n w (strike_slot a) = omega (arith, (open_real P D s o w).0)
-  free_strike s o n w (strike_option a d) = omega (arith, (open_real P D s o w).1)
+  free_strike s o n w (strike_no_slot a) = omega (arith, (open_real P D s o w).0)
+  free_strike s o n w (strike_no_option a d) = omega (arith, (open_real P D s o w).1)
   free_strike s o n w (strike_shut a d) = d w
 
   pub free_back : (n : ℕ) → 0 < tries D → Refuses P D back n → ⊥
   free_back n t (back_none a) = omega arith
 
   pub free_look : (s n : ℕ) → s < length P.sizes → Refuses P D (look s) n → ⊥
-  free_look s n t (look_slot a) = omega arith
+  free_look s n t (look_no_slot a) = omega arith
 
   pub free_next : (k n : ℕ) → length P.sizes ≤ k → Refuses P D (next k) n → ⊥
   free_next k n t (next_short a) = omega arith

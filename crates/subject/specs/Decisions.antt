@@ -34,8 +34,8 @@ abbrev pub Largest : Problem → List Decision → Box → Type 0
 Largest P D X = (s o : ℕ) → T (X s o) ↔ Open P D s o
 
 -- n options are open in all slots
-abbrev pub Counts : Problem → List Decision → ℕ → Type 0
-Counts P D n = (X : Box) × Largest P D X × (n ≡ opened X)
+abbrev pub OpenCount : Problem → List Decision → ℕ → Type 0
+OpenCount P D n = (X : Box) × Largest P D X × (n ≡ opened X)
 
 -- how many tries are in the list
 abbrev pub tries : List Decision → ℕ

@@ -1,7 +1,7 @@
 -- Calls, answers and logs: what stands after a list of calls, and what a call is answered then. Assumes nothing.
 use Rattle.std.specs.Prelude.{◌≡◌, ℕ, ◌/◌, ◌%◌, ◌^◌, ◌<◌, ◌≤◌, Bool, true, false, ◌⊎◌, ◌↔◌, List, [], ◌∷◌, map, length, slice_index}
 use Rattle.subject.specs.Problem.{Problem, Real}
-use Rattle.subject.specs.Decisions.{Decision, tried, struck, Open, Counts, tries, undone}
+use Rattle.subject.specs.Decisions.{Decision, tried, struck, Open, OpenCount, tries, undone}
 use Rattle.subject.specs.Plans.{Plan, First, NoMore}
 
 -- try and strike have a slot and an option, look has a slot, next has the length of the plan memory
@@ -30,15 +30,15 @@ calls L = map (λ e. e.call) L
 
 -- The call is refused while the decisions D stand, by the first of its refusals that applies.
 pub data Refuses (P : Problem) (D : List Decision) : Call → ℕ → Type 0 where
-  try_slot : {s o : ℕ} → length P.sizes ≤ s → Refuses P D (try s o) 21
-  try_option_lem : {s o : ℕ} → s < length P.sizes → slice_index P.sizes s ≤ o → Refuses P D (try s o) 22
+  try_no_slot : {s o : ℕ} → length P.sizes ≤ s → Refuses P D (try s o) 21
+  try_no_option : {s o : ℕ} → s < length P.sizes → slice_index P.sizes s ≤ o → Refuses P D (try s o) 22
   try_shut : {s o : ℕ} → Real P s o → (Open P D s o → ⊥) → Refuses P D (try s o) 23
   try_full : {s o : ℕ} → Open P D s o → 16 ≤ tries D → Refuses P D (try s o) 24
-  strike_slot : {s o : ℕ} → length P.sizes ≤ s → Refuses P D (strike s o) 21
-  strike_option : {s o : ℕ} → s < length P.sizes → slice_index P.sizes s ≤ o → Refuses P D (strike s o) 22
+  strike_no_slot : {s o : ℕ} → length P.sizes ≤ s → Refuses P D (strike s o) 21
+  strike_no_option : {s o : ℕ} → s < length P.sizes → slice_index P.sizes s ≤ o → Refuses P D (strike s o) 22
   strike_shut : {s o : ℕ} → Real P s o → (Open P D s o → ⊥) → Refuses P D (strike s o) 23
   back_none : tries D ≡ 0 → Refuses P D back 25
-  look_slot : {s : ℕ} → length P.sizes ≤ s → Refuses P D (look s) 21
+  look_no_slot : {s : ℕ} → length P.sizes ≤ s → Refuses P D (look s) 21
   next_short : {n : ℕ} → n < length P.sizes → Refuses P D (next n) 26
 
 -- what a call that is not refused makes of the decisions
@@ -77,9 +77,9 @@ Bit m o = (m / 2 ^ o) % 2 ≡ 1
 -- The answer to a call, while the decisions D stand and the plans G were given since the last begin.
 pub data Reckoned (P : Problem) (D : List Decision) (G : List Plan) : Call → Answer → Type 0 where
   refuses : {c : Call} {n : ℕ} → Refuses P D c n → Reckoned P D G c (refused n)
-  try_done : {s o n : ℕ} → Open P D s o → tries D < 16 → Counts P (tried s o ∷ D) n → Reckoned P D G (try s o) (count n)
-  strike_done : {s o n : ℕ} → Open P D s o → Counts P (struck s o ∷ D) n → Reckoned P D G (strike s o) (count n)
-  back_done : {n : ℕ} → 0 < tries D → Counts P (undone D) n → Reckoned P D G back (count n)
+  try_done : {s o n : ℕ} → Open P D s o → tries D < 16 → OpenCount P (tried s o ∷ D) n → Reckoned P D G (try s o) (count n)
+  strike_done : {s o n : ℕ} → Open P D s o → OpenCount P (struck s o ∷ D) n → Reckoned P D G (strike s o) (count n)
+  back_done : {n : ℕ} → 0 < tries D → OpenCount P (undone D) n → Reckoned P D G back (count n)
   look_done : {s m : ℕ} → s < length P.sizes → m < 2 ^ 32 → ((o : ℕ) → Bit m o ↔ Open P D s o) → Reckoned P D G (look s) (bits m)
   begin_done : Reckoned P D G begin done
   end_done : Reckoned P D G end done

@@ -1,5 +1,5 @@
 -- The numbers of the refusals, and of a line that was not possible. Assumes nothing.
-use Rattle.std.specs.Prelude.{ℕ}
+use Rattle.std.specs.Prelude.{◌≡◌, ℕ}
 use Rattle.subject.specs.declared.refusal.Refusal.{Refusal}
 use Rattle.subject.specs.declared.refusal.Refusal.TheVariants.{NoSlot, NoOption, NotOpen, TooManyTries, NoTry, ShortMemory}
 use Rattle.subject.specs.declared.denial.Denial.{Denial}
@@ -16,3 +16,7 @@ number_of ShortMemory = 26
 abbrev pub denial_number : Denial → ℕ
 denial_number (Refused e) = number_of e
 denial_number NotPossible = 41
+
+-- no two denials have one number
+abbrev pub NumbersApart : Type 0
+NumbersApart = (d e : Denial) → denial_number d ≡ denial_number e → d ≡ e

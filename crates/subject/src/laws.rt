@@ -1,4 +1,5 @@
 // Laws of the definitions alone, each the contract of a function that computes nothing.
+ghost use Rattle.subject.specs.Refusals.{NumbersApart};
 ghost use Rattle.subject.specs.Law.{Alike, Determinate, Fair};
 
 // The calls determine the decisions that stand, and in a lawful log a call was answered by a refusal exactly
@@ -15,6 +16,13 @@ pub fn decisions_from_calls() -> bool
 #[tactic(auto, using(crate::proofs::Moments::alike))]
 pub fn alike_moments() -> bool
     ensures { Alike }
+{
+    true
+}
+
+// A clause that names the number of a refusal or of a denial says which it is.
+pub fn denial_by_number() -> bool
+    ensures { NumbersApart }
 {
     true
 }

@@ -4,6 +4,7 @@
 
 pub mod answer;
 pub mod call;
+mod chosen;
 pub mod denial;
 pub mod laws;
 pub mod plan;

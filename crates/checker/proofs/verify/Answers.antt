@@ -1,7 +1,7 @@
 use Rattle.std.proofs.Common.{◌≡◌, Ok, Err, sym, ap, ◌∙◌, subst, arith, lit<}
 use Rattle.std.proofs.lemmas.Result.{err_from_is_err_and}
 use Rattle.catalogue.specs.Records.{slot, header, row, weight, end, read_at}
-use Rattle.checker.specs.Model.{entered_as, entry_of, Lies, Part, head_len}
+use Rattle.checker.specs.Model.{entered_as, entry_of, BodyLies, Part, head_len}
 use Rattle.checker.proofs.Judging.{reached_none, cut_off_there, ends_there, refused_there, goes_by}
 use Rattle.checker.proofs.Stepping.{head_ends, head_some}
 use Rattle.checker.proofs.verify.Goals as goal
@@ -37,7 +37,7 @@ pub records-preserved-in-Slot : goal.records-preserved-in-Slot
 records-preserved-in-Slot c =
     let bs = c.args.bytes.now in
     let i = c.records.invariant in
-    let lies : Part bs c.records.at 1 c.in-Slot.body.now = subst (λ x. Lies bs c.records.at (entry_of x)) c.in-Slot.is c.in_ok-body.ensures.lies in
+    let lies : Part bs c.records.at 1 c.in-Slot.body.now = subst (λ x. BodyLies bs c.records.at (entry_of x)) c.in-Slot.is c.in_ok-body.ensures.lies in
     let size = c.len-at.ensures in
     (omega (arith, lies.within), goes_by bs c.records.at c.records.progress i.0 i.1 _ c.add_slot.new.self (is_slot (goal.at.records-preserved-in-Slot c).In-Slot) tt (lit< tt) (c.in_ok-add_slot-in-Slot.ensures bs) _ size)
 
@@ -56,7 +56,7 @@ pub records-preserved-in-Header : goal.records-preserved-in-Header
 records-preserved-in-Header c =
     let bs = c.args.bytes.now in
     let i = c.records.invariant in
-    let lies : Part bs c.records.at (head_len c.in-Header.make) c.in-Header.body.now = subst (λ x. Lies bs c.records.at (entry_of x)) c.in-Header.is c.in_ok-body.ensures.lies in
+    let lies : Part bs c.records.at (head_len c.in-Header.make) c.in-Header.body.now = subst (λ x. BodyLies bs c.records.at (entry_of x)) c.in-Header.is c.in_ok-body.ensures.lies in
     let m = c.in-Header.make in
     let ends = head_ends c.records.at m c.in-Header.body.now lies.long in
     (omega (arith, lies.within, lies.long), goes_by bs c.records.at c.records.progress i.0 i.1 _ c.add_header.new.self (is_header (goal.at.records-preserved-in-Header c).In-Header) tt (head_some m) (c.in_ok-add_header-in-Header.ensures bs) _ (omega (arith, ends)))
@@ -76,7 +76,7 @@ pub records-preserved-in-Row : goal.records-preserved-in-Row
 records-preserved-in-Row c =
     let bs = c.args.bytes.now in
     let i = c.records.invariant in
-    let lies : Part bs c.records.at 8 c.in-Row.body.now = subst (λ x. Lies bs c.records.at (entry_of x)) c.in-Row.is c.in_ok-body.ensures.lies in
+    let lies : Part bs c.records.at 8 c.in-Row.body.now = subst (λ x. BodyLies bs c.records.at (entry_of x)) c.in-Row.is c.in_ok-body.ensures.lies in
     let size = c.len-at-in-Row.ensures in
     (omega (arith, lies.within), goes_by bs c.records.at c.records.progress i.0 i.1 _ c.add_row.new.self (is_row (goal.at.records-preserved-in-Row c).In-Row) tt (lit< tt) c.in_ok-add_row-in-Row.ensures _ size)
 
@@ -95,6 +95,6 @@ pub records-preserved : goal.records-preserved
 records-preserved c =
     let bs = c.args.bytes.now in
     let i = c.records.invariant in
-    let lies : Part bs c.records.at 4 c.in-Weight.body.now = subst (λ x. Lies bs c.records.at (entry_of x)) c.in-Weight.is c.in_ok-body.ensures.lies in
+    let lies : Part bs c.records.at 4 c.in-Weight.body.now = subst (λ x. BodyLies bs c.records.at (entry_of x)) c.in-Weight.is c.in_ok-body.ensures.lies in
     let size = c.len-at-in-Weight.ensures in
     (omega (arith, lies.within), goes_by bs c.records.at c.records.progress i.0 i.1 _ c.records.progress (is_weight (goal.at.records-preserved c).In-Weight) tt (lit< tt) c.in_ok-add_weight-in-Weight.ensures _ size)

@@ -12,7 +12,7 @@ loop-position-preserved g c =
     let hp : c.loop-position.position < length (m.scope c.args.sheet) =
     omega (arith, positions m c.args.sheet _ _ c.arity.ensures c.unwrap_or-position-end.ensures hs, c.loop-position-test.true) in
     let e = slot_is m c.args.sheet c.loop-position.position _ _ c.slot_at.ensures c.unwrap_or.ensures hs hp in
-    partly_more m c.args.sheet c.loop-position.position _ _ _ hs hp e (omega (arith, e, (g.B.Binder.proper c.args.binder.now).slots c.args.sheet c.loop-position.position hs hp)) c.loop-position.invariant c.with_slot-set.ensures
+    partly_more m c.args.sheet c.loop-position.position _ _ _ hs hp e c.loop-position.invariant c.with_slot-set.ensures
 
 pub returns : goal.returns
 returns g c =

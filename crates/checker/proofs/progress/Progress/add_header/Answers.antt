@@ -3,7 +3,7 @@ use Rattle.std.proofs.lemmas.Bool.Decides.{nat_tests}
 use Rattle.std.proofs.lemmas.List.{length-take-le}
 use Rattle.catalogue.specs.Checks.{fresh, sheets_of, is_load, well_scoped, scope_of}
 use Rattle.catalogue.specs.Content.{loads_in}
-use Rattle.checker.proofs.Stepping.{scope_read_lem, loads_with_lem, head_newest, head_ends, head_more}
+use Rattle.checker.proofs.Stepping.{scope_read_passes, loads_counted, head_newest, head_ends, head_more}
 use Rattle.checker.proofs.progress.Progress.add_header.Goals as goal
 
 pub returns : goal.returns
@@ -14,8 +14,8 @@ returns c = λ bs s h.
     let m = c.args.make in
     let few = length-take-le p.slots p.options (omega arith) in
     let slots : p.slots ≡ length s.options = sym few ∙ ap length h.options in
-    let read = scope_read_lem at p.slots b c.in_ok-scope.scope.now c.in_ok-scope.ensures in
-    let loads = loads_with_lem m p.loads c.in-Some.loads c.in-Some.ensures in
+    let read = scope_read_passes at p.slots b c.in_ok-scope.scope.now c.in_ok-scope.ensures in
+    let loads = loads_counted m p.loads c.in-Some.loads c.in-Some.ensures in
     let ends = head_ends at m b c.requires.size in
     let more = head_more (sheets_of s) (fresh m b) in
     let scoped : well_scoped (length s.options) (scope_of b) ≡ true = ap (λ n. well_scoped n (scope_of b)) (sym slots) ∙ read.1 in

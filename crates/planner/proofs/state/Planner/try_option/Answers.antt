@@ -8,7 +8,7 @@ use Rattle.planner.proofs.state.Planner.try_option.Goals as goal
 pub returns-in_err-option-clause-law : goal.returns-in_err-option-clause-law
 returns-in_err-option-clause-law g c P L a =
     let h = err_from_is_err_and c.from_residual.result c.from_residual.ensures.1 in
-    rw h.1 (refused_stays _ P L _ (try c.args.slot c.args.option) _ a refl refl (shut_try _ P L _ c.args.slot c.args.option h.0 a (rw h.2 c.in_err-option.ensures)))
+    rw h.1 (refused_stays _ P L _ (try c.args.slot c.args.option) _ a refl refl (shut_try _ P L _ c.args.slot c.args.option _ a (rw h.2 c.in_err-option.ensures)))
 
 pub returns-then-self-ge-TRIES-clause-law : goal.returns-then-self-ge-TRIES-clause-law
 returns-then-self-ge-TRIES-clause-law g c P L a =

@@ -1,0 +1,23 @@
+-- A number determines the refusal. Assumes nothing.
+use Rattle.std.specs.Prelude.{◌==◌}
+use Rattle.std.proofs.Common.{◌≡◌, ℕ, cond, Ok, Err, Result, refl, sym, ap, ◌∙◌}
+use Rattle.std.specs.Result.{result_unwrap_or}
+use Rattle.binder.specs.declared.refusal.BinderRefusal.{BinderRefusal}
+use Rattle.binder.specs.declared.refusal.BinderRefusal.TheVariants.{NotThere, TooManyMarks, NoMark}
+use Rattle.binder.specs.Refusals.{number_of, numbered, NumbersApart}
+
+abbrev by_number : ℕ → BinderRefusal
+by_number n = cond (n == 31) NotThere (cond (n == 32) TooManyMarks NoMark)
+
+back : (e : BinderRefusal) → by_number (number_of e) ≡ e
+back NotThere = refl
+back TooManyMarks = refl
+back NoMark = refl
+
+pub numbers_apart : NumbersApart
+numbers_apart d e h = sym (back d) ∙ ap by_number h ∙ back e
+
+-- a value in the place of a refusal is the same with numbers
+pub value_or : (r : Result ℕ BinderRefusal) (d : ℕ) → result_unwrap_or r d ≡ result_unwrap_or (numbered r) d
+value_or (Ok x) d = refl
+value_or (Err e) d = refl

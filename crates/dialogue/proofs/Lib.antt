@@ -1,0 +1,3 @@
+mod Talking
+mod Telling
+mod Ending

@@ -1,0 +1,4 @@
+use Rattle.session.proofs.state.Session.open.Goals as goal
+
+pub returns : goal.returns
+returns g c = c.of.ensures _ _ c.open.ensures
