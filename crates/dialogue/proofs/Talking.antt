@@ -1,24 +1,21 @@
 -- Lines that are answered batch by batch, as they are read. Assumes nothing.
-use Rattle.std.proofs.Common.{◌≡◌, ℕ, zero, suc, ◌+◌, ◌-◌, ◌<◌, ◌≤◌, Bool, true, false, ◌⊎◌, List, [], ◌∷◌, ◌++◌, map, length, get_or, take, drop, Option, Result, Ok, Err, IfOk, sym, refl, ap, ◌∙◌, subst, inl, inr, ⊎_elim, arith, length-append, length-take}
+use Rattle.std.proofs.Common.{◌≡◌, ℕ, zero, suc, ◌+◌, ◌-◌, ◌<◌, ◌≤◌, ◌⊎◌, List, [], ◌++◌, map, length, get_or, take, drop, Option, Result, Ok, Err, IfOk, sym, refl, ap, ◌∙◌, subst, inl, inr, arith, length-append, length-take}
 use Rattle.std.proofs.Math.Seq.{take-add}
-use Rattle.std.proofs.lemmas.Bool.{cases_lt}
 use Rattle.std.proofs.lemmas.List.{length-take-le, length-drop, take-append-le, take_at, drop_at, take_all, drop-take, take-take, get_or-drop, get_or-take, get_or_append_left, map-append}
 use Rattle.std.proofs.lemmas.List.Concat.{flat_map-append}
 use Rattle.std.specs.Io.KnownBytes.{Consumes, Appends, IsAtEnd}
 use Rattle.std.proofs.KnownBytes.{Consumes-nil, Consumes-trans, Appends-nil, Appends-trans}
-use Rattle.subject.specs.Problem.{Problem}
-use Rattle.subject.specs.Logs.{Log}
 use Rattle.binder.specs.declared.binders.Binder.{Ghosts}
 use Rattle.binder.specs.Meaning.{Binding}
 use Rattle.commands.specs.Lines.{lines_of, Whole}
 use Rattle.commands.specs.Parsing.{call_of}
 use Rattle.commands.proofs.Splitting.{cut_whole}
 use Rattle.session.specs.Runs.{logged}
-use Rattle.session.specs.Law.{Led, Ran}
+use Rattle.session.specs.Law.{Ran}
 use Rattle.session.specs.declared.state.Session.{Session}
 use Rattle.session.proofs.Laws.{held_law}
 use Rattle.session.proofs.Batches.{ran_on}
-use Rattle.dialogue.specs.Talk.{calls_in, reply_line, reply_lines, Answered, Served}
+use Rattle.dialogue.specs.Talk.{calls_in, reply_line, Answered, Served}
 
 -- the front of an input ends where a line does, or is empty
 abbrev pub Cut : List ℕ → ℕ → Type 0
@@ -156,8 +153,8 @@ module _ {B : Type 0} {bound : Ghosts B} (meaning : B → Binding) where
       let these = part new from (to + came) (omega arith) in
       let some : n ≤ to + came - from = omega (arith, whole.within, length-take (to + came - from) (drop from new)) in
       going_said had less was is now (take (to + came) new) said from n s t u gone wrote
-          (subst (λ l. Answered meaning l said t u) (part_front new from n (to + came) (omega (arith, some))) more)
-          (subst (λ l. Whole l n) these whole)
+      (subst (λ l. Answered meaning l said t u) (part_front new from n (to + came) (omega (arith, some))) more)
+      (subst (λ l. Whole l n) these whole)
 
   -- and at the end the rest
   pub going_end : {E : Type 0} (had left was is now : Option (List ℕ)) (buffer : List ℕ) (from to : ℕ) (s t : Session B bound) (r : Result (Session B bound) E) → from ≤ to → to ≤ length buffer → to ≤ 65536
@@ -168,5 +165,5 @@ module _ {B : Type 0} {bound : Ghosts B} (meaning : B → Binding) where
       let rest : take (to - from) (drop from buffer) ≡ take (to - from) (drop from (take to buffer)) =
       part buffer from to h ∙ sym (take_all (to - from) (drop from (take to buffer)) (omega (arith, long, length-drop from (take to buffer)))) in
       going_done had left was is now (take to buffer) said from (to - from) s t u g wrote (subst (λ l. Answered meaning l said t u) rest more)
-          (omega (arith, long, h)) (omega (arith, long)) (λ lt. whole (omega (arith, long)))
+      (omega (arith, long, h)) (omega (arith, long)) (λ lt. whole (omega (arith, long)))
   going_end had left was is now buffer from to s t (Err e) h room within whole spoke g = tt

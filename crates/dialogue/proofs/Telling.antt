@@ -1,5 +1,5 @@
 -- What the program has written in the end. Assumes nothing.
-use Rattle.std.proofs.Common.{◌≡◌, ℕ, ◌<◌, ◌≤◌, List, [], ◌∷◌, ◌++◌, length, take, None, Some, Option, Result, Ok, Err, IfOk, IfErr, OnOk, sym, refl, ap, ◌∙◌, subst, ⊎_elim, arith, length-take, append-nil, append_assoc}
+use Rattle.std.proofs.Common.{◌≡◌, ℕ, ◌<◌, ◌≤◌, List, [], ◌∷◌, ◌++◌, length, take, None, Some, Option, Result, Ok, Err, IfOk, IfErr, OnOk, sym, refl, ap, ◌∙◌, subst, ⊎_elim, arith, length-take, append-nil}
 use Rattle.std.proofs.lemmas.Bool.{cases_lt}
 use Rattle.std.proofs.lemmas.List.{take_at, take_all}
 use Rattle.std.specs.Io.KnownBytes.{Consumes, Appends, IsAtEnd, Keeps}
@@ -13,7 +13,7 @@ use Rattle.binder.specs.Meaning.{Binding}
 use Rattle.plain.specs.Plain.{problem_in}
 use Rattle.session.specs.Law.{Led, box_of}
 use Rattle.session.specs.declared.state.Session.{Session}
-use Rattle.dialogue.specs.Talk.{reply_lines, Served}
+use Rattle.dialogue.specs.Talk.{Served}
 use Rattle.dialogue.specs.Program.{First, Talked, Says, Told}
 
 -- what was taken of an input is its first bytes
@@ -23,11 +23,11 @@ first_taken (Some xs) None input took within whole = absurd took
 first_taken (Some xs) (Some ys) input took within whole = (
   within,
   ⊎_elim
-  (λ short.
-  let all : xs ≡ input = took ∙ ap (λ l. input ++ l) (whole short) ∙ append-nil input in
-  sym (take_all 65536 input within) ∙ ap (take 65536) (sym all))
-  (λ long. sym (ap (take 65536) took ∙ take_at input ys 65536 (omega (arith, long, within))))
-  (cases_lt (length input) 65536),
+      (λ short.
+      let all : xs ≡ input = took ∙ ap (λ l. input ++ l) (whole short) ∙ append-nil input in
+      sym (take_all 65536 input within) ∙ ap (take 65536) (sym all))
+      (λ long. sym (ap (take 65536) took ∙ take_at input ys 65536 (omega (arith, long, within))))
+      (cases_lt (length input) 65536),
 )
 
 -- the first bytes of an input of which nothing is read

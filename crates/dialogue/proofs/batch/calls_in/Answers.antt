@@ -1,4 +1,4 @@
-use Rattle.std.proofs.Common.{◌≡◌, Bor, List, ℕ, length, ap, subst, rules}
+use Rattle.std.proofs.Common.{Bor, List, ℕ, length, ap, subst, rules}
 use Rattle.std.proofs.lemmas.Iterator.{YieldsList, YieldsList-from_map, items_from_collect}
 use Rattle.std.proofs.lemmas.Iterator.Consumers.{YieldsList-from_shown, YieldsList-at}
 use Rattle.commands.specs.Lines.{lines_of, to_come, Took}

@@ -1,5 +1,4 @@
-use Rattle.std.proofs.Common.{◌≡◌, [], sym, ◌∙◌, subst}
-use Rattle.std.proofs.lemmas.Result.{on_ok_weaker}
+use Rattle.std.proofs.Common.{[], sym, ◌∙◌, subst}
 use Rattle.plain.specs.Plain.{problem_in, meaning_of}
 use Rattle.session.specs.Law.{Led}
 use Rattle.dialogue.proofs.Telling.{told_fault, told_accepted, if_ok_each}
@@ -9,7 +8,7 @@ pub returns-in_ok-serve-in-Ok : goal.returns-in_ok-serve-in-Ok
 returns-in_ok-serve-in-Ok g c =
     let held = subst (λ file. Led meaning_of (problem_in file) [] c.of.result) c.in-Ok.ensures.fills.0 (c.of.ensures _ _ c.open.ensures) in
     told_accepted meaning_of c.args.file.now c.in-Ok.counts _ _ _ _ _ _ c.of.result c.in_ok-serve-in-Ok.field-0 (sym c.check.ensures.is ∙ c.in-Ok.is) held c.in_ok-writeln-in-Ok.ensures.bytes c.flush.ensures.bytes
-        c.in_ok-serve-in-Ok.ensures
+    c.in_ok-serve-in-Ok.ensures
 
 pub returns-in_ok-writeln-in-Err : goal.returns-in_ok-writeln-in-Err
 returns-in_ok-writeln-in-Err g c =

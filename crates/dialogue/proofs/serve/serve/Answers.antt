@@ -1,4 +1,4 @@
-use Rattle.std.proofs.Common.{◌≡◌, ◌+◌, ◌-◌, ◌≤◌, length, take, drop, ⊎_elim, true≢false, arith, length-take}
+use Rattle.std.proofs.Common.{◌≡◌, ◌+◌, ◌-◌, ◌≤◌, length, drop, ⊎_elim, true≢false, arith, length-take}
 use Rattle.std.proofs.lemmas.Bool.{cases_lt, both_ways}
 use Rattle.dialogue.proofs.Ending.{reads_fall}
 use Rattle.dialogue.proofs.Talking.{going_none, going_turn, going_end}
@@ -28,16 +28,15 @@ reads-preserved g c =
     let long : length new ≡ 65536 = omega (arith, c.read_behind.auto.buffer, c.reads.invariant.0) in
     let within : to + came ≤ 65536 = omega (arith, c.in_ok-came.ensures.within, long) in
     let some : n ≤ to + came - from = omega (arith, c.whole_lines-lines.ensures.within, length-take (to + came - from) (drop from new)) in
-    let spoke = c.in_ok-session.ensures in
-    (
+    let spoke = c.in_ok-session.ensures in (
       long,
       omega (arith, some, c.reads.invariant.1),
       within,
       (λ no lt.
-      ⊎_elim
-      (λ came. absurd (both_ways _ no (c.goes_on-more.ensures.1 (came, lt))))
-      (λ none. c.in_ok-came.ensures.end (omega (arith, none)) (omega (arith, lt, c.reads.invariant.0)))
-      (cases_lt 0 came)),
+          ⊎_elim
+          (λ came. absurd (both_ways _ no (c.goes_on-more.ensures.1 (came, lt))))
+          (λ none. c.in_ok-came.ensures.end (omega (arith, none)) (omega (arith, lt, c.reads.invariant.0)))
+          (cases_lt 0 came)),
       going_turn {bound = g.B.Binder} g.B.Binder.meaning _ _ _ _ _ _ c.reads.buffer new spoke.0 from to came n _ _ _ c.reads.invariant.1 c.in_ok-came.ensures.front c.in_ok-came.ensures.taken
           c.whole_lines-lines.ensures spoke.1 spoke.2 c.reads.invariant.4,
     )
