@@ -9,8 +9,8 @@ number_of TooManyMarks = 32
 number_of NoMark = 33
 
 -- no two refusals have one number
-abbrev pub NumbersApart : Type 0
-NumbersApart = (d e : BinderRefusal) → number_of d ≡ number_of e → d ≡ e
+abbrev pub RefusalsApart : Type 0
+RefusalsApart = (d e : BinderRefusal) → number_of d ≡ number_of e → d ≡ e
 
 -- a result, with its number in the place of a refusal
 abbrev pub numbered : {X : Type 0} → Result X BinderRefusal → Result X ℕ

@@ -8,6 +8,8 @@ use crate::counts::Counts;
 // sheets, of 4,096 rows, of a weight for each of 32 options at each of 8 positions of 8 load sheets, and of the end.
 pub const LONGEST: usize = 48 * 2 + 56 * 10 + 8 * 14 + 4096 * 9 + 8 * 8 * 32 * 5 + 1;
 
+const _: () = prove!(LONGEST == 47_873);
+
 // Its bytes are always an accepted file, and hold so much.
 #[derive(Drop)]
 pub struct Catalogue<'a> {

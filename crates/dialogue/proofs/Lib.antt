@@ -1,3 +1,4 @@
+mod Reading
 mod Talking
 mod Telling
 mod Ending

@@ -13,7 +13,7 @@ use Rattle.commands.proofs.Splitting.{cut_whole}
 use Rattle.session.specs.Runs.{logged}
 use Rattle.session.specs.Law.{Ran}
 use Rattle.session.specs.declared.state.Session.{Session}
-use Rattle.session.proofs.Laws.{held_law}
+use Rattle.session.proofs.Laws.{led_law}
 use Rattle.session.proofs.Batches.{ran_on}
 use Rattle.dialogue.specs.Talk.{calls_in, reply_line, Answered, Served}
 
@@ -64,7 +64,7 @@ module _ {B : Type 0} {bound : Ghosts B} (meaning : B → Binding) where
     replies = [];
     worded = refl;
     each = refl;
-    ran = λ P L h. record { held = h; law = held_law meaning P L s h; fitting = λ i lt. absurd (omega arith) };
+    ran = λ P L h. record { led = h; law = led_law meaning P L s h; fitting = λ i lt. absurd (omega arith) };
   }
 
   -- the lines of an input, and then those of another behind it
@@ -78,7 +78,7 @@ module _ {B : Type 0} {bound : Ghosts B} (meaning : B → Binding) where
         each = omega (arith, length-append a.replies b.replies, length-append (calls_in input) (calls_in more), ap length all, a.each, b.each);
         ran = λ P L h.
             let first = a.ran P L h in
-            let both = ran_on meaning P L 48 (calls_in input) (calls_in more) a.replies b.replies t u a.each first (b.ran P (logged 48 (calls_in input) a.replies (length a.replies) L) first.held) in
+            let both = ran_on meaning P L 48 (calls_in input) (calls_in more) a.replies b.replies t u a.each first (b.ran P (logged 48 (calls_in input) a.replies (length a.replies) L) first.led) in
             subst (λ l. Ran {bound = bound} meaning P L l (a.replies ++ b.replies) (length (a.replies ++ b.replies)) 48 u) (sym all) both;
       }
 

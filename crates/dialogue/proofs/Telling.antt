@@ -14,10 +14,10 @@ use Rattle.plain.specs.Plain.{problem_in}
 use Rattle.session.specs.Law.{Led, box_of}
 use Rattle.session.specs.declared.state.Session.{Session}
 use Rattle.dialogue.specs.Talk.{Served}
-use Rattle.dialogue.specs.Program.{First, Talked, Says, Told}
+use Rattle.dialogue.specs.Program.{FirstBytes, Talked, TextOf, LeftOf, Told}
 
 -- what was taken of an input is its first bytes
-first_taken : (had left : Option (List ℕ)) (input : List ℕ) → Consumes had left input → length input ≤ 65536 → (length input < 65536 → IsAtEnd left) → First had input
+first_taken : (had left : Option (List ℕ)) (input : List ℕ) → Consumes had left input → length input ≤ 65536 → (length input < 65536 → IsAtEnd left) → FirstBytes had input
 first_taken None left input took within whole = (within, tt)
 first_taken (Some xs) None input took within whole = absurd took
 first_taken (Some xs) (Some ys) input took within whole = (
@@ -35,27 +35,29 @@ abbrev front : Option (List ℕ) → List ℕ
 front None = []
 front (Some xs) = take 65536 xs
 
-first_front : (had : Option (List ℕ)) → First had (front had)
+first_front : (had : Option (List ℕ)) → FirstBytes had (front had)
 first_front None = (omega arith, tt)
 first_front (Some xs) = (omega (arith, length-take 65536 xs), refl)
 
 -- a file with a fault
-pub told_fault : (file : List ℕ) (fault : Fault) (had was mid is : Option (List ℕ)) → verdict file ≡ Err fault → Appends was mid (fault_line fault ++ 10 ∷ []) → Keeps mid is → Told file had was is
-told_fault file fault had was mid is faulty wrote kept = record {
+pub told_fault : (file : List ℕ) (fault : Fault) (had left was mid is : Option (List ℕ)) → verdict file ≡ Err fault → Keeps had left → Appends was mid (fault_line fault ++ 10 ∷ []) → Keeps mid is
+    → Told file had left was is
+told_fault file fault had left was mid is faulty unread wrote kept = record {
   input = front had;
   first = first_front had;
   text = fault_line fault ++ 10 ∷ [];
   written = Appends-kept was mid is (fault_line fault ++ 10 ∷ []) wrote kept;
-  says = subst (λ r. Says r file (front had) (fault_line fault ++ 10 ∷ [])) (sym faulty) refl;
+  says = subst (λ r. TextOf r file (front had) (fault_line fault ++ 10 ∷ [])) (sym faulty) refl;
+  leaves = subst (λ r. LeftOf r (front had) had left) (sym faulty) unread;
 }
 
 -- an accepted file, and the input that was answered
 pub told_accepted : {B : Type 0} {bound : Ghosts B} (meaning : B → Binding) (file : List ℕ) (counts : Counts) (had left was mid kept is : Option (List ℕ)) (s t : Session B bound) → verdict file ≡ Ok counts
-    → Led meaning (problem_in file) [] s → Appends was mid (counts_line counts ++ 10 ∷ []) → Keeps mid kept → Served meaning had left kept is s t → Told file had was is
-told_accepted meaning file counts had left was mid kept is s t accepted held wrote same served =
+    → Led meaning (problem_in file) [] s → Appends was mid (counts_line counts ++ 10 ∷ []) → Keeps mid kept → Served meaning had left kept is s t → Told file had left was is
+told_accepted meaning file counts had left was mid kept is s t accepted led wrote same served =
     let line = counts_line counts ++ 10 ∷ [] in
     let a = served.answered in
-    let run = a.ran (problem_in file) [] held in
+    let run = a.ran (problem_in file) [] led in
     let talked : Talked file counts served.input (line ++ served.words) =
     record { replies = a.replies; worded = ap (λ l. line ++ l) a.worded; each = a.each; box = box_of t; law = run.law; fitting = run.fitting } in
     record {
@@ -63,7 +65,8 @@ told_accepted meaning file counts had left was mid kept is s t accepted held wro
       first = first_taken had left served.input served.taken served.within served.whole;
       text = line ++ served.words;
       written = Appends-trans was kept is line served.words (Appends-kept was mid kept line wrote same) served.written;
-      says = subst (λ r. Says r file served.input (line ++ served.words)) (sym accepted) talked;
+      says = subst (λ r. TextOf r file served.input (line ++ served.words)) (sym accepted) talked;
+      leaves = subst (λ r. LeftOf r served.input had left) (sym accepted) (served.taken, served.whole);
     }
 
 -- a fact of each case
@@ -74,10 +77,6 @@ if_ok_each (Err e) P h = tt
 pub if_err_each : {T E : Type 0} (r : Result T E) (P : E → Type 0) → ((e : E) → P e) → IfErr r P
 if_err_each (Ok x) P h = tt
 if_err_each (Err e) P h = h e
-
-pub if_err_more : {T E : Type 0} (r : Result T E) (P Q : E → Type 0) → ((e : E) → P e → Q e) → IfErr r P → IfErr r Q
-if_err_more (Ok x) P Q h p = tt
-if_err_more (Err e) P Q h p = h e p
 
 pub no_ok : {T E : Type 0} (r : Result T E) (e : E) (P : Type 0) → r ≡ Err e → OnOk r P
 no_ok (Ok x) e P is = absurd (grind arith)

@@ -42,7 +42,7 @@ fn words_of<A: Allocator>(alloc: A, replies: &[Reply]) -> io::Result<Vec<u8, A>>
     Ok(text)
 }
 
-// Answers the lines of some input, and says it in words.
+// Answers the lines of some input, and says it in words. An error is one of memory; when one comes is left free.
 pub fn answer<B: Binder + Drop, A: Allocator + Copy>(
     alloc: A,
     session: Session<B>,

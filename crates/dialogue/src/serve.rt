@@ -1,12 +1,12 @@
 // The lines of an input, answered as they come.
-ghost use Rattle.std.specs.Prelude.{◌≡◌, ◌+◌, ◌<◌, ◌≤◌, ℕ, List, Decides, length, IfOk, true, false};
-ghost use Rattle.std.specs.Io.KnownBytes.{Appends};
+ghost use Rattle.std.specs.Prelude.{◌≡◌, ◌+◌, ◌<◌, ◌≤◌, ℕ, List, Decides, take, drop, length, IfOk, true, false};
+ghost use Rattle.std.specs.Io.KnownBytes.{Consumes, IsAtEnd, Appends};
 ghost use Rattle.dialogue.specs.Talk.{Answered, Served};
 
 use crate::batch::answer;
 use binder::binders::Binder;
 use commands::lines::whole_lines;
-use input::{LIMIT, read_behind};
+use input::{LIMIT, read_some};
 use session::state::Session;
 use std::alloc::Allocator;
 use std::io;
@@ -34,8 +34,20 @@ fn goes_on(came: usize, to: usize) -> bool
     came > 0 && to < LIMIT
 }
 
+// One read into the part of a buffer behind its first bytes, and these stay.
+fn read_behind<R: Read>(input: &mut R, buffer: &mut [u8], behind: usize) -> io::Result<usize>
+    requires { behind ≤ length buffer.old }
+    ensures within { IfOk result (λ n. behind + n ≤ length buffer.new) }
+    ensures front { take behind buffer.new ≡ take behind buffer.old }
+    ensures taken { IfOk result (λ n. Consumes (R.remaining input.old) (R.remaining input.new) (take n (drop behind buffer.new))) }
+    ensures end { IfOk result (λ n. n ≡ 0 → behind < length buffer.old → IsAtEnd (R.remaining input.new)) }
+{
+    read_some(input, &mut buffer[behind..])
+}
+
 // Answers the lines of the first bytes of an input as they come, each batch of whole lines in one go, and at the end the
-// rest, which has no line end. How much of the output was written before an error is left free.
+// rest, which has no line end. An error is one of memory, of reading or of writing; when one comes and which, how much was
+// taken of the input and how much was written before it, is left free.
 pub fn serve<B: Binder + Drop, R: Read, W: Write, A: Allocator + Copy>(
     alloc: A,
     mut session: Session<B>,

@@ -8,4 +8,4 @@ pub mod Laid
 pub mod Split
 pub mod Stacks
 pub mod Outcomes
-pub mod Steps
+pub mod Doing

@@ -9,7 +9,7 @@ ghost use Rattle.explore.specs.Levels.{Returned};
 ghost use Rattle.explore.specs.Outcomes.{IfEmpty, Leaves, Long, Turned};
 ghost use Rattle.explore.specs.Rewound.{Rewound};
 ghost use Rattle.explore.specs.Exploring.{Exploring};
-ghost use Rattle.explore.specs.Steps.{Stepped};
+ghost use Rattle.explore.specs.Doing.{TurnDone};
 ghost use Rattle.explore.specs.Stacks.{height, pending, lost_of, weight_of};
 ghost use Rattle.settle.specs.Reach.{masks_of, Covers};
 
@@ -31,7 +31,7 @@ impl Stack {
             → Turned P D G X m result (pending self.new) (lost_of self.new) (height self.new) (B.Binder.meaning binder.new) }
         ensures stepped { IfEmpty result
             (height self.old ≡ 0)
-            (Stepped result (B.Binder.meaning binder.old) (B.Binder.meaning binder.new) (masks_of reach.now) slots (pending self.old) (pending self.new) (lost_of self.old) (lost_of self.new) (height self.old)) }
+            (TurnDone result (B.Binder.meaning binder.old) (B.Binder.meaning binder.new) (masks_of reach.now) slots (pending self.old) (pending self.new) (lost_of self.old) (lost_of self.new) (height self.old)) }
         ensures less { IfEmpty result
             ((height self.old ≡ 0) × (self.new ≡ self.old) × (binder.new ≡ binder.old))
             (weight_of self.new < weight_of self.old) }

@@ -1,15 +1,13 @@
-// What the programs read: the first bytes of an input or of a file, and one read after another.
+// What the programs read: the first bytes of an input or of a file, and one read.
 #![tactic(auto)]
 
-ghost use Rattle.std.specs.Prelude.{◌≡◌, ◌≢◌, ◌+◌, ◌≤◌, ◌<◌, [], take, drop, length, IfOk, IfErr, OnErr, IsOkAnd, IfSome, vec_len, vec_items, Err};
+ghost use Rattle.std.specs.Prelude.{◌≡◌, ◌≢◌, ◌≤◌, ◌<◌, [], take, length, IfOk, IfErr, OnErr, IsOkAnd, IfSome, vec_len, Err};
 ghost use Rattle.std.specs.IoError.{error_kind};
 ghost use Rattle.std.specs.Io.KnownBytes.{Consumes, IsAtEnd, Keeps};
 
 use std::alloc::Allocator;
-use std::fs::File;
 use std::io;
 use std::io::{ErrorKind, Read};
-use std::rt::Files;
 
 #[cfg(test)]
 mod tests;
@@ -36,8 +34,8 @@ pub fn first_bytes<R: Read + Drop, A: Allocator>(
     Ok(bytes)
 }
 
-// The first bytes of a file that was to be opened. One that was not found counts as empty, and every other error is passed
-// on, whether of opening or of reading.
+// The first bytes of a file that was to be opened. One that was not found counts as empty, and every other error of opening is
+// passed on. So is any error of reading but an interruption, after which the read is tried again; which it is, is left free.
 pub fn first_bytes_of_opened<R: Read + Drop, A: Allocator>(
     alloc: A,
     opened: io::Result<R>,
@@ -47,6 +45,7 @@ pub fn first_bytes_of_opened<R: Read + Drop, A: Allocator>(
     ensures bytes { IfOk opened (λ file. IfSome (R.remaining file) (λ xs. IfOk result (λ bytes. bytes.items ≡ take limit xs))) }
     ensures missing { IfErr opened (λ e. error_kind e ≡ ErrorKind.NotFound → IsOkAnd result (λ bytes. bytes.items ≡ [])) }
     ensures passed { IfErr opened (λ e. error_kind e ≢ ErrorKind.NotFound → result ≡ Err e) }
+    ensures retried { IfOk opened (λ file. IfErr result (λ e. error_kind e ≢ ErrorKind.Interrupted)) }
 {
     match opened {
         Ok(file) => first_bytes(alloc, file, limit),
@@ -55,18 +54,8 @@ pub fn first_bytes_of_opened<R: Read + Drop, A: Allocator>(
     }
 }
 
-// The same of the file at a path. No contract knows which file is opened.
-pub fn first_bytes_of_file<R: Files + Alloc>(
-    rt: &R,
-    path: &str,
-    limit: usize,
-) -> io::Result<Vec<u8, R::A>>
-    ensures { IfOk result (λ bytes. vec_len bytes ≤ limit) }
-{
-    first_bytes_of_opened(rt.alloc(), File::open(rt, path), limit)
-}
-
-// One read, tried again while it is interrupted. An error has taken nothing.
+// One read, tried again while it is interrupted. An error has taken nothing. Left free is what the buffer holds behind the
+// bytes that came, or at all after an error; and which error comes, but for one that says interrupted.
 pub fn read_some<R: Read>(input: &mut R, into: &mut [u8]) -> io::Result<usize>
     ensures within { IfOk result (λ n. n ≤ length into.new) }
     ensures taken { IfOk result (λ n. Consumes (R.remaining input.old) (R.remaining input.new) (take n into.new)) }
@@ -81,17 +70,4 @@ pub fn read_some<R: Read>(input: &mut R, into: &mut [u8]) -> io::Result<usize>
         }
     }
     Err(io::Error::from(ErrorKind::TimedOut))
-}
-
-// The same into the part of a buffer behind its first bytes, and these stay.
-pub fn read_behind<R: Read>(input: &mut R, buffer: &mut [u8], behind: usize) -> io::Result<usize>
-    requires { behind ≤ length buffer.old }
-    ensures within { IfOk result (λ n. behind + n ≤ length buffer.new) }
-    ensures front { take behind buffer.new ≡ take behind buffer.old }
-    ensures taken { IfOk result (λ n. Consumes (R.remaining input.old) (R.remaining input.new) (take n (drop behind buffer.new))) }
-    ensures end { IfOk result (λ n. n ≡ 0 → behind < length buffer.old → IsAtEnd (R.remaining input.new)) }
-    ensures kept { OnErr result (Keeps (R.remaining input.old) (R.remaining input.new)) }
-    ensures retried { IfErr result (λ e. error_kind e ≢ ErrorKind.Interrupted) }
-{
-    read_some(input, &mut buffer[behind..])
 }

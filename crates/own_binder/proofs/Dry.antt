@@ -7,17 +7,15 @@ use Rattle.catalogue.specs.Verdict.{accepts}
 use Rattle.catalogue.specs.Law.{Octets}
 use Rattle.catalogue.proofs.Held.{held}
 use Rattle.subject.specs.declared.refusal.Refusal.{Refusal}
-use Rattle.subject.specs.declared.refusal.Refusal.TheVariants.{NoSlot, NoOption, NotOpen, TooManyTries, NoTry, ShortMemory}
-use Rattle.subject.specs.Refusals.{number_of}
 use Rattle.subject.specs.Problem.{Problem, Real}
 use Rattle.subject.specs.Decisions.{Decision, Open}
 use Rattle.subject.specs.Plans.{Plan}
-use Rattle.subject.specs.Logs.{Reckoned, Refuses, look, try, refuses, look_no_slot, look_done, try_shut, try_done}
+use Rattle.subject.specs.Logs.{Reckoned, Refuses, look, try, bits, refused, refuses, look_no_slot, look_done, try_shut, try_done}
 use Rattle.subject.proofs.Bits.{some_bit}
 use Rattle.subject.proofs.Standing.{one_refusal}
 use Rattle.planner.specs.Answers.{counts, shows}
 use Rattle.planner.specs.Opening.{slots_said, slots_in, posed}
-use Rattle.own_binder.specs.Lone.{lone}
+use Rattle.own_binder.specs.OneSheet.{one_sheet}
 
 -- ---- every slot of a checked catalogue has an option
 
@@ -34,27 +32,19 @@ slots_have bytes c a o s lt =
 
 -- ---- answers where nothing is open
 
-number_23 : (e : Refusal) → number_of e ≡ 23 → e ≡ NotOpen
-number_23 NoSlot h = absurd (omega arith)
-number_23 NoOption h = absurd (omega arith)
-number_23 NotOpen h = refl
-number_23 TooManyTries h = absurd (omega arith)
-number_23 NoTry h = absurd (omega arith)
-number_23 ShortMemory h = absurd (omega arith)
-
 module _ (P : Problem) (D : List Decision) (G : List Plan) (shut : (s o : ℕ) → Open P D s o → ⊥) where
   look_only : (s n : ℕ) → Refuses P D (look s) n → length P.sizes ≤ s
   look_only s n (look_no_slot k) = k
 
-  pub look_dry : (s : ℕ) (r : Result ℕ Refusal) → s < length P.sizes → Reckoned P D G (look s) (shows r) → r ≡ Ok 0
-  look_dry s (Ok m) h (look_done k small sees) = ap Ok (⊎_elim (λ e. e) (λ ne. let b = some_bit m m (omega arith) ne in absurd (shut s b.0 ((sees b.0).0 b.1))) (cases_eq m 0))
+  pub look_dry : (s : ℕ) (r : Result ℕ Refusal) → s < length P.sizes → Reckoned P D G (look s) (shows r) → shows r ≡ bits 0
+  look_dry s (Ok m) h (look_done k small sees) = ap bits (⊎_elim (λ e. e) (λ ne. let b = some_bit m m (omega arith) ne in absurd (shut s b.0 ((sees b.0).0 b.1))) (cases_eq m 0))
   look_dry s (Err e) h (refuses x) = let k = look_only s _ x in absurd (omega arith)
 
-  pub try_dry : (s o : ℕ) (r : Result ℕ Refusal) → Real P s o → Reckoned P D G (try s o) (counts r) → r ≡ Err NotOpen
+  pub try_dry : (s o : ℕ) (r : Result ℕ Refusal) → Real P s o → Reckoned P D G (try s o) (counts r) → counts r ≡ refused 23
   try_dry s o (Ok n) real (try_done w few c) = absurd (shut s o w)
-  try_dry s o (Err e) real (refuses x) = ap Err (number_23 e (one_refusal P D (try s o) _ 23 x (try_shut real (shut s o))))
+  try_dry s o (Err e) real (refuses x) = ap refused (one_refusal P D (try s o) _ 23 x (try_shut real (shut s o)))
 
 -- ---- the sheet names a slot that is not there
 
-pub beyond : (sizes : List ℕ) (slot marks : ℕ) → length sizes ≤ slot → (D : List Decision) (s o : ℕ) → Open (posed sizes (lone slot marks)) D s o → ⊥
+pub beyond : (sizes : List ℕ) (slot marks : ℕ) → length sizes ≤ slot → (D : List Decision) (s o : ℕ) → Open (posed sizes (one_sheet slot marks)) D s o → ⊥
 beyond sizes slot marks h D s o w = let lt : slot < length sizes = w.1.placed 0 0 slot (omega arith, omega arith, refl) in omega arith

@@ -3,7 +3,7 @@
 #![tactic(auto)]
 
 mod asking;
-mod lone;
+mod one_sheet;
 
 use asking::ask;
 use catalogue::checked::Catalogue;

@@ -47,7 +47,7 @@ ran_on meaning P L n first second rs ss t u e was more =
     let all : logged n (first ++ second) (rs ++ ss) (length (rs ++ ss)) L ≡ logged n second ss (length ss) M =
     logged_behind n first second rs ss L e (length ss) (length (rs ++ ss)) long in
     record {
-      held = subst (λ K. Led meaning P K u) (sym all) more.held;
+      led = subst (λ K. Led meaning P K u) (sym all) more.led;
       law = subst (λ K. Law P K (box_of u)) (sym all) more.law;
       fitting = λ i lt.
           ⊎_elim

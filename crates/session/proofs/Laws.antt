@@ -26,8 +26,8 @@ module _ {B : Type 0} {bound : Ghosts B} (meaning : B → Binding) (P : Problem)
   held_largest (Outside p) h D out st = subst (λ E. Largest P E (opens p.slate.cells)) (determinate P (calls L) h.decisions D h.standing st) h.stands.largest
   held_largest (Inside w) h D out st = absurd (true≢false (sym h.within ∙ out))
 
-  pub held_law : (s : Session B bound) → Led meaning P L s → Law P L (box_of s)
-  held_law s h = record {
+  pub led_law : (s : Session B bound) → Led meaning P L s → Law P L (box_of s)
+  led_law s h = record {
     lawful = held_lawful s h;
     largest = held_largest s h;
     alike = λ Q E J F K D D' is there same v w sd se f q c. alike P Q E F J K D D' same (subst (Lawful P) (sym is) (held_lawful s h)) there v w sd se f q c;
@@ -37,8 +37,8 @@ module _ {B : Type 0} {bound : Ghosts B} (meaning : B → Binding) (P : Problem)
 pub ran : {B : Type 0} {bound : Ghosts B} (meaning : B → Binding) (P : Problem) (L : Log) (lines : List (Option Call)) (before after : List Reply) (k : ℕ) (s t : Session B bound) (m m' : List ℕ)
     → Running meaning lines k before after s t m m' → Led meaning P L s → Ran meaning P L lines after k (length m) t
 ran meaning P L lines before after k s t m m' run was =
-    let held = run.held P L was in
-    record { held = held; law = held_law meaning P (logged (length m) lines after k L) t held; fitting = λ i lt. run.fitting P L was i lt }
+    let led = run.led P L was in
+    record { led = led; law = led_law meaning P (logged (length m) lines after k L) t led; fitting = λ i lt. run.fitting P L was i lt }
 
 pub kept : {B : Type 0} {bound : Ghosts B} (meaning : B → Binding) (lines : List (Option Call)) (before after : List Reply) (k : ℕ) (s t : Session B bound) (m m' : List ℕ)
     → Running meaning lines k before after s t m m' → Kept k before after m m'

@@ -34,7 +34,7 @@ module _ {B : Type 0} {bound : Ghosts B} (meaning : B → Binding) (lines : List
     long = (refl, refl);
     past = λ i k. refl;
     memory = refl;
-    held = λ P L k. k;
+    led = λ P L k. k;
     fitting = λ P L k i l. absurd (omega arith);
   }
 
@@ -58,7 +58,7 @@ module _ {B : Type 0} {bound : Ghosts B} (meaning : B → Binding) (lines : List
     fit_at P L h i k =
         ⊎_elim
         (λ e. subst (λ j. Fitting (get_or lines j None) (get_or (set rs at r) j (Err NotPossible)) (logged (length m0) lines (set rs at r) j L)) (sym e)
-        (subst₂ (λ x M. Fitting (get_or lines at None) x M) (sym here) (sym (front (length m0) L at (omega arith))) (more.fits P _ (was.held P L h))))
+        (subst₂ (λ x M. Fitting (get_or lines at None) x M) (sym here) (sym (front (length m0) L at (omega arith))) (more.fits P _ (was.led P L h))))
         (λ ne. subst₂ (λ x M. Fitting (get_or lines i None) x M) (sym (other i ne)) (sym (front (length m0) L i (omega arith))) (was.fitting P L h i (omega arith)))
         (cases_eq i at)
 
@@ -68,7 +68,7 @@ module _ {B : Type 0} {bound : Ghosts B} (meaning : B → Binding) (lines : List
       past = λ i h. other i (omega arith) ∙ was.past i (omega arith);
       memory = rw (add-one at)
           (more.memory ∙ (λ j. overlaid (sym here j) ((was.memory ∙ sym (remembered_same at rs (set rs at r) m0 (λ i l. other i (omega arith)))) j)));
-      held = λ P L h. rw (add-one at)
-          (subst₂ (λ x M. Led meaning P (entered (length m0) (get_or lines at None) x M) u) (sym here) (sym (front (length m0) L at (omega arith))) (entered_on P _ (was.held P L h)));
+      led = λ P L h. rw (add-one at)
+          (subst₂ (λ x M. Led meaning P (entered (length m0) (get_or lines at None) x M) u) (sym here) (sym (front (length m0) L at (omega arith))) (entered_on P _ (was.led P L h)));
       fitting = fit_at;
     }

@@ -43,6 +43,6 @@ pub record Law (P : Problem) (L : Log) (X : Box) : Type 0 where
 -- The first k lines were replied to, with a plan memory of n bytes: the log that they come to has led to s and obeys the
 -- law, and a line was not possible exactly where it says so.
 pub record Ran {B : Type 0} {bound : Ghosts B} (meaning : B → Binding) (P : Problem) (L : Log) (lines : List (Option Call)) (replies : List Reply) (k n : ℕ) (s : Session B bound) : Type 0 where
-  pub held : Led meaning P (logged n lines replies k L) s
+  pub led : Led meaning P (logged n lines replies k L) s
   pub law : Law P (logged n lines replies k L) (box_of s)
   pub fitting : (i : ℕ) → i < k → Fitting (slice_index_or lines i None) (slice_index_or replies i (Err NotPossible)) (logged n lines replies i L)

@@ -35,6 +35,6 @@ pub record Running {B : Type 0} {bound : Ghosts B} (meaning : B → Binding) (li
   pub long : (length after ≡ length before) × (length m' ≡ length m)
   pub past : (i : ℕ) → to ≤ i → slice_index_or after i (Err NotPossible) ≡ slice_index_or before i (Err NotPossible)
   pub memory : m' ≡ remembered after to m
-  pub held : (P : Problem) (L : Log) → Led meaning P L s → Led meaning P (logged (length m) lines after to L) t
+  pub led : (P : Problem) (L : Log) → Led meaning P L s → Led meaning P (logged (length m) lines after to L) t
   pub fitting : (P : Problem) (L : Log) → Led meaning P L s
       → (i : ℕ) → i < to → Fitting (slice_index_or lines i None) (slice_index_or after i (Err NotPossible)) (logged (length m) lines after i L)

@@ -17,7 +17,8 @@ use subject::call::Call;
 impl<B: Binder> Session<B> {
     // A session outside walks with a planner that was opened: wherever calls have led the planner, they have led the session.
     pub fn of(planner: Planner<B>) -> Session<B>
-        ensures { (P : Problem) (L : Log) → After B.Binder.meaning P L planner → Led B.Binder.meaning P L result }
+        ensures is { result ≡ Outside planner }
+        ensures led { (P : Problem) (L : Log) → After B.Binder.meaning P L planner → Led B.Binder.meaning P L result }
     {
         Session::Outside(planner)
     }

@@ -9,6 +9,7 @@ use Rattle.subject.specs.Decisions as Deciding
 use Rattle.boxes.specs.Boxes.{Open, opens, Within, Bit}
 use Rattle.boxes.specs.Slots.{Disjoint}
 use Rattle.boxes.proofs.Bits.{open_there}
+use Rattle.binder.proofs.Supported.{fits_alike}
 use Rattle.boxes.proofs.Counting.{opens_is}
 use Rattle.binder.specs.Meaning.{Binding, SameLists}
 use Rattle.settle.specs.Keeping.{Has, Keeps, Framed, Backed, Based}
@@ -25,13 +26,6 @@ keeps_same P X k j e h = record { ruled = λ s l t. h.ruled s l (subst T (e s l)
 
 pub has_framed : (P : Problem) (m n : Binding) → Has P m → Framed m n → Has P n
 has_framed P m n h f = record { sheets = f.sheets.count ∙ h.sheets; scope = λ k. f.sheets.scope k ∙ h.scope k }
-
--- a list fits the cells exactly where it fits the box that they stand for
-cells_fit : (c scope l : List ℕ) → Fits (opens c) scope l → Cells.Fits c scope l
-cells_fit c scope l f = record { long = f.0; each = λ p h. (opens_is c _ _).0 (f.1 p h) }
-
-box_fits : (c scope l : List ℕ) → Cells.Fits c scope l → Fits (opens c) scope l
-box_fits c scope l f = (f.long, λ p h. (opens_is c _ _).1 (f.each p h))
 
 -- a box opens nothing of the slots that it does not cover
 pub opens_low : (b : List ℕ) → length b ≡ 48 → (s o : ℕ) → T (opens b s o) → s < 48
@@ -57,7 +51,7 @@ module _ (m k : Binding) (masks : List ℕ) (lost n : ℕ) (b c : List ℕ) (fra
     ruled = λ s l t. keeps.ruled s l (none_added s l t);
     fitting = λ s l a f.
         still s l (keeps.fitting s l a (f.0, λ i lt. inside_cells b c less _ _ (f.1 i lt)))
-        (subst (λ x. Cells.Fits c x l) (sym (has.scope s)) (cells_fit c (P.scope s) l f));
+        (subst (λ x. Cells.Fits c x l) (sym (has.scope s)) ((fits_alike c (P.scope s) l).1 f));
   }
 
   module _ (P : Problem) (has : Has P m) (long : length P.sizes ≡ n) (keeps : Keeps P (opens b) m.kept) where
@@ -77,7 +71,7 @@ module _ (m k : Binding) (masks : List ℕ) (lost n : ℕ) (b c : List ℕ) (fra
           let e : k.scope q ≡ P.scope q = framed.sheets.scope q ∙ has.scope q in
           let h = holds q (subst (λ x. q < x) (sym has.sheets) nm.0) i o (subst (λ x. i < length x) (sym e) nm.1)
           (subst (λ x. Open c x o) (sym nm.2 ∙ ap (λ x. get_or x i 0) (sym e)) ((opens_is c s o).0 t)) in
-          (h.list, keeps.ruled q h.list (none_added q h.list h.keeps), subst (λ x. Fits (opens c) x h.list) e (box_fits c (k.scope q) h.list h.fits), h.holds);
+          (h.list, keeps.ruled q h.list (none_added q h.list h.keeps), subst (λ x. Fits (opens c) x h.list) e ((fits_alike c (k.scope q) h.list).0 h.fits), h.holds);
     }
 
     largest_of : Placed P → ((s o : ℕ) → Open b s o → Real P s o) → ((s : ℕ) → s < m.count → Holding k c s) → LargestIn P (opens b) (opens c)

@@ -27,7 +27,7 @@ pub record Covers (n : ℕ) (scope : ℕ → List ℕ) (masks : List ℕ) : Type
 abbrev pub Holding : Binding → List ℕ → ℕ → Type 0
 Holding m b s = (p o : ℕ) → p < length (m.scope s) → Open b (slice_index (m.scope s) p) o → Held m b s p o
 
--- sheet s names a slot of a set, or it holds what is open at its slots
+-- sheet s, by its own set, names a slot of a set, or it holds what is open at its slots
 abbrev pub Rests : Binding → List ℕ → List ℕ → ℕ → ℕ → Type 0
 Rests m masks b set s = Disjoint (slice_index masks s) set → Holding m b s
 

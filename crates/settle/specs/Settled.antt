@@ -28,12 +28,12 @@ Upheld m Y = (s p o : ℕ) → s < m.count → p < length (m.scope s) → T (Y (
 -- The binder m became k and the box b became c, for n slots. Whatever these are: the sheets, scopes and marks stay, no list is
 -- added, and none is dropped that fits c; nothing is opened. No box within b is lost that the kept lists uphold and that has
 -- something open in each of the first n slots. Where anything is open in c, each of these slots has an open option.
--- Sheet by sheet: a sheet holds what is open in c at its slots, if its own set has the slots that it names, and if it names
--- a lost slot or held what is open in b.
+-- Sheet by sheet: a sheet holds what is open in c at its slots, if its own set has the slots that it names and
+-- that a box covers, and if it names a lost slot, by that set, or held what is open in b.
 -- What this comes to for a problem that has these sheets, and of whose rules the binder keeps what matters in b: the binder
 -- keeps what matters in c, and c is the largest supported box within b. The latter has five premises more: the problem has n
 -- slots; the sheets name no slot beyond the last; b opens only options that there are; the sets have the slots that the
--- sheets name; and each sheet that names no lost slot held what is open in b.
+-- sheets name and a box covers; and each sheet that names no lost slot held what is open in b.
 -- Left free: whether a list that does not fit c is kept; and where a sheet's set lacks a slot, or it did not hold what
 -- was open and names no lost slot, how much is closed of what is not supported.
 pub record Settled (m k : Binding) (masks : List ℕ) (lost n : ℕ) (b c : List ℕ) : Type 0 where

@@ -18,5 +18,5 @@ denial_number (Refused e) = number_of e
 denial_number NotPossible = 41
 
 -- no two denials have one number
-abbrev pub NumbersApart : Type 0
-NumbersApart = (d e : Denial) → denial_number d ≡ denial_number e → d ≡ e
+abbrev pub DenialsApart : Type 0
+DenialsApart = (d e : Denial) → denial_number d ≡ denial_number e → d ≡ e

@@ -1,5 +1,5 @@
 // Laws of the definitions alone, each the contract of a function that computes nothing.
-ghost use Rattle.subject.specs.Refusals.{NumbersApart};
+ghost use Rattle.subject.specs.Refusals.{DenialsApart};
 ghost use Rattle.subject.specs.Law.{Alike, Determinate, Fair};
 
 // The calls determine the decisions that stand, and in a lawful log a call was answered by a refusal exactly
@@ -22,7 +22,7 @@ pub fn alike_moments() -> bool
 
 // A clause that names the number of a refusal or of a denial says which it is.
 pub fn denial_by_number() -> bool
-    ensures { NumbersApart }
+    ensures { DenialsApart }
 {
     true
 }

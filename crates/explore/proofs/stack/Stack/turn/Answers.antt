@@ -4,7 +4,7 @@ use Rattle.boxes.specs.Boxes.{opens}
 use Rattle.settle.proofs.Keeping.{inside_cells}
 use Rattle.settle.proofs.Ways.{by_ways}
 use Rattle.subject.specs.Boxes.{Inside}
-use Rattle.explore.specs.Steps.{Marked}
+use Rattle.explore.specs.Doing.{Marked}
 use Rattle.explore.proofs.Weights.{weight_drop}
 use Rattle.explore.proofs.Turning.{exploring_over, turn_dry, turn_found, turn_split}
 use Rattle.explore.proofs.stack.Stack.turn.Goals as goal

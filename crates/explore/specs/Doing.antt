@@ -31,7 +31,7 @@ Does (Found p) c k o K J A B i = Some c 0 × ((s : ℕ) → Two c s → ⊥) × 
 -- Left free is what settling leaves free: after a split, and after a box was dropped where no mark stood, which of the
 -- lists that do not fit c are kept; and how far the box is closed where a sheet's set is wrong or a sheet that names no lost
 -- slot did not hold what was open.
-pub record Stepped (r : Outcome) (m o : Binding) (masks : List ℕ) (n : ℕ) (K J : ℕ → Box) (A B : ℕ → ℕ) (top : ℕ) : Type 0 where
+pub record TurnDone (r : Outcome) (m o : Binding) (masks : List ℕ) (n : ℕ) (K J : ℕ → Box) (A B : ℕ → ℕ) (top : ℕ) : Type 0 where
   pub some : 0 < top
   pub b : List ℕ
   pub c : List ℕ

@@ -1,6 +1,6 @@
 // A binder that none of the makes is: one sheet that names one slot, of any number, and admits every option.
 ghost use Rattle.std.specs.Prelude.{◌≡◌};
-ghost use Rattle.own_binder.specs.Lone.{lone, meaning_of, proper_of};
+ghost use Rattle.own_binder.specs.OneSheet.{one_sheet, meaning_of, proper_of};
 
 use binder::binders::Binder;
 use binder::marks::Marks;
@@ -9,22 +9,22 @@ use boxes::OptionBox;
 
 // The slot, and how many marks stand: what the sheet keeps never changes.
 #[derive(Drop)]
-pub struct Lone {
+pub struct OneSheet {
     slot: usize,
     marks: Marks,
 }
 
-impl Lone {
+impl OneSheet {
     // The slot may be one that no box covers.
-    pub fn new(slot: usize) -> Lone
-        ensures { meaning_of result ≡ lone slot 0 }
+    pub fn new(slot: usize) -> OneSheet
+        ensures { meaning_of result ≡ one_sheet slot 0 }
     {
         let marks = Marks::none();
-        Lone { slot, marks }
+        OneSheet { slot, marks }
     }
 }
 
-impl Binder for Lone {
+impl Binder for OneSheet {
     ghost meaning = { λ x. meaning_of x };
 
     ghost proper = { λ x. proper_of x };

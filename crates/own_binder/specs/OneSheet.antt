@@ -2,7 +2,7 @@
 use Rattle.std.proofs.Common.{ℕ, zero, suc, ◌<◌, Bool, false, nat_lt, T, List, [], ◌∷◌, refl, arith, ltb→lt}
 use Rattle.std.specs.Prelude.{slice_index}
 use Rattle.binder.specs.Meaning.{Binding, Listed, Proper}
-use Rattle.own_binder.specs.declared.lone.Lone.{Lone}
+use Rattle.own_binder.specs.declared.one_sheet.OneSheet.{OneSheet}
 
 -- a list has one option, from 0 to 31
 unfoldable pub keeps : List ℕ → Bool
@@ -10,11 +10,11 @@ keeps [] = false
 keeps (o ∷ []) = nat_lt o 32
 keeps (o ∷ p ∷ l) = false
 
-abbrev pub lone : ℕ → ℕ → Binding
-lone slot marks = record { count = 1; scope = λ s. slot ∷ []; kept = λ s. keeps; marks = marks; marked = λ i s. keeps }
+abbrev pub one_sheet : ℕ → ℕ → Binding
+one_sheet slot marks = record { count = 1; scope = λ s. slot ∷ []; kept = λ s. keeps; marks = marks; marked = λ i s. keeps }
 
-abbrev pub meaning_of : Lone → Binding
-meaning_of x = lone x.slot x.marks.count
+abbrev pub meaning_of : OneSheet → Binding
+meaning_of x = one_sheet x.slot x.marks.count
 
 keeps_listed : (slot : ℕ) (l : List ℕ) → T (keeps l) → Listed (slot ∷ []) l
 unfolding keeps
@@ -26,7 +26,7 @@ keeps_listed slot (o ∷ []) t = record { long = refl; low = low }
     low (suc p) h = absurd (omega arith)
 keeps_listed slot (o ∷ p ∷ l) t = absurd t
 
-pub proper_of : (x : Lone) → Proper (meaning_of x)
+pub proper_of : (x : OneSheet) → Proper (meaning_of x)
 proper_of x = record {
   few = omega arith;
   low = x.marks.few;

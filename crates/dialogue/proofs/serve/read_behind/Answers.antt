@@ -1,7 +1,7 @@
 use Rattle.std.proofs.Common.{arith, length-take-le}
 use borrow.Rule.Slice.PartMut.{take_put}
-use Rattle.input.proofs.Reading.{taken_behind}
-use Rattle.input.proofs.read_behind.Goals as goal
+use Rattle.dialogue.proofs.Reading.{taken_behind}
+use Rattle.dialogue.proofs.serve.read_behind.Goals as goal
 
 pub returns-clause-front : goal.returns-clause-front
 returns-clause-front g c = take_put _ _ c.args.buffer.now _ (omega (arith, c.requires))
