@@ -1,11 +1,12 @@
 // Runs of lines: the law of every log stands here.
-ghost use Rattle.std.specs.Prelude.{ℕ, min, List, [], length};
+ghost use Rattle.std.specs.Prelude.{◌≡◌, ℕ, min, List, [], length};
 ghost use Rattle.subject.specs.Problem.{Problem};
 ghost use Rattle.subject.specs.Logs.{Log};
 ghost use Rattle.planner.specs.Opening.{slots_in, posed};
 ghost use Rattle.planner.specs.States.{After};
 ghost use Rattle.session.specs.Law.{Led, Ran};
 ghost use Rattle.session.specs.Runs.{Kept};
+ghost use Rattle.session.specs.declared.state.Session.TheVariants.{Outside};
 
 use crate::state::Session;
 use binder::binders::Binder;

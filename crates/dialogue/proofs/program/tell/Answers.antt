@@ -7,7 +7,7 @@ use Rattle.dialogue.proofs.program.tell.Goals as goal
 
 pub returns-in_ok-serve-in-Ok : goal.returns-in_ok-serve-in-Ok
 returns-in_ok-serve-in-Ok g c =
-    let led = subst (λ file. Led meaning_of (problem_in file) [] c.of.result) c.in-Ok.ensures.fills.0 (c.of.ensures _ _ c.open.ensures) in
+    let led = subst (λ file. Led meaning_of (problem_in file) [] c.of.result) c.in-Ok.ensures.fills.0 (c.of.ensures.led _ _ c.open.ensures) in
     told_accepted meaning_of c.args.file.now c.in-Ok.counts _ _ _ _ _ _ c.of.result c.in_ok-serve-in-Ok.field-0 (sym c.check.ensures.is ∙ c.in-Ok.is) led c.in_ok-writeln-in-Ok.ensures.bytes c.flush.ensures.bytes
     c.in_ok-serve-in-Ok.ensures
 

@@ -1,4 +1,4 @@
 use Rattle.session.proofs.state.Session.open.Goals as goal
 
 pub returns : goal.returns
-returns g c = c.of.ensures _ _ c.open.ensures
+returns g c = c.of.ensures.led _ _ c.open.ensures
