@@ -6,10 +6,8 @@ ghost use Rattle.std.specs.IoError.{error_kind};
 ghost use Rattle.std.specs.Io.KnownBytes.{Consumes, IsAtEnd, Keeps};
 
 use std::alloc::Allocator;
-use std::fs::File;
 use std::io;
 use std::io::{ErrorKind, Read};
-use std::rt::Files;
 
 #[cfg(test)]
 mod tests;
@@ -55,17 +53,6 @@ pub fn first_bytes_of_opened<R: Read + Drop, A: Allocator>(
         Err(e) if e.kind() == ErrorKind::NotFound => Ok(Vec::new(alloc)),
         Err(e) => Err(e),
     }
-}
-
-// The same of the file at a path. No contract knows which file is opened.
-pub fn first_bytes_of_file<R: Files + Alloc>(
-    rt: &R,
-    path: &str,
-    limit: usize,
-) -> io::Result<Vec<u8, R::A>>
-    ensures { IfOk result (λ bytes. vec_len bytes ≤ limit) }
-{
-    first_bytes_of_opened(rt.alloc(), File::open(rt, path), limit)
 }
 
 // One read, tried again while it is interrupted. An error has taken nothing.

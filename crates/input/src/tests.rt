@@ -1,5 +1,6 @@
 // That reading succeeds, on examples.
-use crate::{LIMIT, first_bytes, first_bytes_of_file};
+use crate::{LIMIT, first_bytes, first_bytes_of_opened};
+use std::fs::File;
 use std::io::Cursor;
 use std::test::Fail;
 
@@ -27,14 +28,15 @@ fn an_input_beyond_the_limit_is_cut_there(rt: HostRuntime) -> Result<(), Fail> {
 
 #[test]
 fn a_file_is_read_up_to_the_limit(rt: HostRuntime) -> Result<(), Fail> {
-    let bytes = first_bytes_of_file(&rt, "/dev/zero", 3)?;
+    let bytes = first_bytes_of_opened(rt.alloc(), File::open(&rt, "/dev/zero"), 3)?;
     assert_eq!(rt; bytes.as_slice(), b"\0\0\0".as_slice());
     Ok(())
 }
 
 #[test]
 fn a_missing_file_counts_as_empty(rt: HostRuntime) -> Result<(), Fail> {
-    let bytes = first_bytes_of_file(&rt, "/no-such-folder/catalogue", LIMIT)?;
+    let missing = File::open(&rt, "/no-such-folder/catalogue");
+    let bytes = first_bytes_of_opened(rt.alloc(), missing, LIMIT)?;
     assert_eq!(rt; bytes.len(), 0);
     Ok(())
 }
