@@ -5,7 +5,7 @@ use Rattle.subject.specs.declared.call.Call.TheVariants.{Try, Strike, Back, Look
 use Rattle.subject.specs.declared.answer.Answer.{Answer}
 use Rattle.subject.specs.declared.answer.Answer.TheVariants.{Count, Options, Plan, NoPlan, Done}
 use Rattle.subject.specs.declared.denial.Denial.TheVariants.{Refused, NotPossible}
-use Rattle.subject.specs.Refusals.{number_of}
+use Rattle.subject.specs.Refusals.{number_of, denial_number}
 use Rattle.subject.specs.Wording.{Reply, chosen}
 use Rattle.subject.specs.Logs as Logs
 use Rattle.subject.specs.Logs.{Log, walking}
@@ -41,10 +41,15 @@ abbrev pub logged : ℕ → List (Option Call) → List Reply → ℕ → Log �
 logged n lines replies zero L = L
 logged n lines replies (suc k) L = entered n (slice_index_or lines k None) (slice_index_or replies k (Err NotPossible)) (logged n lines replies k L)
 
+-- the reply is the denial of that number
+abbrev pub Denied : ℕ → Reply → Type 0
+Denied n (Ok a) = ⊥
+Denied n (Err d) = denial_number d ≡ n
+
 -- A line is not possible exactly where it is no call, or a call that has no place then: next and end are made in a walk,
 -- all others outside.
 abbrev pub Fitting : Option Call → Reply → Log → Type 0
-Fitting None r L = r ≡ Err NotPossible
+Fitting None r L = Denied 41 r
 Fitting (Some c) (Ok a) L = walking L ≡ inside (called 0 c)
 Fitting (Some c) (Err (Refused e)) L = walking L ≡ inside (called 0 c)
 Fitting (Some c) (Err NotPossible) L = walking L ≡ not (inside (called 0 c))
