@@ -14,6 +14,7 @@ use Rattle.explore.specs.Exploring.{Exploring}
 use Rattle.settle.specs.Reach.{masks_of, Covers}
 use Rattle.explore.specs.Stacks.{height, pending, lost_of}
 use Rattle.planner.specs.States.{Saved}
+use Rattle.planner.specs.declared.state.Slots.{Slots}
 use Rattle.planner.specs.declared.state.Walk.{Walk}
 use Rattle.planner.specs.declared.step.State.{State}
 use Rattle.planner.specs.declared.step.State.TheVariants.{Fresh, AtPlan, Spent}
@@ -43,9 +44,13 @@ pub record Walking {B : Type 0} {bound : Ghosts B} (meaning : B → Binding) (P 
   pub standing : Standing P (calls L) decisions
   pub goes : Goes meaning P decisions (given L) w
 
+-- the slots of the walk's planner: how many, and how many options each has
+abbrev pub slots_of : {B : Type 0} {bound : Ghosts B} → Walk B bound → Slots
+slots_of w = w.planner.slots
+
 -- how many slots a plan of the walk has
 abbrev pub plan_slots : {B : Type 0} {bound : Ghosts B} → Walk B bound → ℕ
-plan_slots w = w.planner.slots.count
+plan_slots w = (slots_of w).count
 
 -- next refuses exactly a plan memory that is shorter than the number of slots, and then leaves the walk as it was
 abbrev pub Refused : {B : Type 0} {bound : Ghosts B} → Result Step Refusal → ℕ → Walk B bound → Walk B bound → Type 0

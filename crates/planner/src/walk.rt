@@ -4,7 +4,7 @@ ghost use Rattle.subject.specs.Problem.{Problem};
 ghost use Rattle.subject.specs.Logs.{Log};
 ghost use Rattle.planner.specs.Answers.{begin_entry, next_entry, end_entry, written, Sized};
 ghost use Rattle.planner.specs.States.{After};
-ghost use Rattle.planner.specs.Walks.{Walking, plan_slots, Refused};
+ghost use Rattle.planner.specs.Walks.{Walking, slots_of, plan_slots, Refused};
 
 use crate::marks::save;
 use crate::state::{Planner, Walk};
@@ -45,7 +45,7 @@ impl<B: Binder> Walk<B> {
         ensures wrote { memory.new ≡ written (plan_slots self.old) result memory.old memory.new }
         ensures sized { Sized (plan_slots self.old) result }
         ensures refused { Refused result (length memory.old) self.old self.new }
-        ensures slots { plan_slots self.new ≡ plan_slots self.old }
+        ensures slots { slots_of self.new ≡ slots_of self.old }
     {
         let count = self.planner.slots.count;
         if memory.len() < count {

@@ -32,7 +32,7 @@ returns-in_default-Found g c =
       wrote = wrote ∙ ap (λ x. x ++ drop count c.args.memory.now) (sym front);
       sized = refl;
       refused = omega (arith, c.if-memory-count.false);
-      slots = ap (λ x. x.count) c.turns.invariant.0.slots;
+      slots = c.turns.invariant.0.slots;
     }
 
 pub turns-preserved-in_default-Dry : goal.turns-preserved-in_default-Dry
