@@ -15,8 +15,10 @@ use Rattle.binder.specs.Meaning.{Binding, SameLists}
 use Rattle.settle.specs.Keeping.{Has, Keeps, Framed, Backed, Based}
 use Rattle.settle.specs.Reach.{Covering, Covers, Holding, Rests, Resting}
 use Rattle.settle.specs.Settled.{Settled, Lives, Under, Upheld, Tight, Alive}
+use Rattle.settle.specs.declared.waiting.Waiting.{Waiting}
 use Rattle.settle.proofs.Scopes.{covers_same}
-use Rattle.settle.proofs.Tight.{fits_less, Rested, holding_all}
+use Rattle.settle.proofs.Tight.{fits_less}
+use Rattle.settle.proofs.Passing.{Going, holding_all}
 
 pub keeps_less : (P : Problem) (X Y : Box) (k : ℕ → List ℕ → Bool) → Inside Y X → Keeps P X k → Keeps P Y k
 keeps_less P X Y k f h = record { ruled = h.ruled; fitting = λ s l a t. h.fitting s l a (t.0, λ i lt. f _ _ (t.1 i lt)) }
@@ -100,10 +102,11 @@ settled_dry m k masks lost n b c z done dry shut =
     (λ Y u up lives. absurd (dry (record { each = λ s h. let a = lives s h in record { option = a.0; is = done.upheld Y u up s a.0 a.1 } }))) (λ s o h. absurd (shut s o h))
     (λ s hs covers rest p o hp h. absurd (shut _ o h))
 
--- a round in which nothing changed
-pub settled_same : (m k : Binding) (masks : List ℕ) (lost new n : ℕ) (b c : List ℕ) → Tight m k b c → new ≡ 0 → Rested m k masks lost new b c → Alive c n → Settled m k masks lost n b c
-settled_same m k masks lost new n b c done none rested alive =
-    settled m k masks lost n b c done.framed done.none_added done.still done.within (λ Y u up lives. done.upheld Y u up) (λ s o h. alive) (holding_all m k masks lost new b c none rested)
+-- no sheet waits any more
+pub settled_same : (m k : Binding) (masks : List ℕ) (lost n : ℕ) (w : Waiting) (b c : List ℕ) → Going m k masks lost w b c → w.late ≡ 0 → Alive c n → Settled m k masks lost n b c
+settled_same m k masks lost n w b c done none alive =
+    let tight : Tight m k b c = done.tight in
+    settled m k masks lost n b c tight.framed tight.none_added tight.still tight.within (λ Y u up lives. tight.upheld Y u up) (λ s o h. alive) (holding_all m k masks lost w b c done none)
 
 -- ---- sheets that need not be asked
 

@@ -1,3 +1,5 @@
 pub mod Keeping
+pub mod Passed
 pub mod Reach
 pub mod Settled
+pub mod Waiting

@@ -4,7 +4,7 @@ use Rattle.subject.specs.Problem.{Problem, Real, Placed}
 use Rattle.subject.specs.Boxes.{Box, Fits, LargestIn}
 use Rattle.boxes.specs.Boxes as Cells
 use Rattle.boxes.specs.Boxes.{Open, opens, Within}
-use Rattle.binder.specs.Meaning.{Binding, Held}
+use Rattle.binder.specs.Meaning.{Binding}
 use Rattle.settle.specs.Keeping.{Has, Keeps, Framed}
 use Rattle.settle.specs.Reach.{Covering, Covers, Holding, Rests, Resting}
 
@@ -56,7 +56,9 @@ pub record Tight (m n : Binding) (b c : List ℕ) : Type 0 where
   pub within : Within c b
   pub upheld : (Y : Box) → Under Y b → Upheld m Y → Under Y c
 
--- the first k sheets were shown, but for those that name no lost slot: what is open at their slots was held
-pub record Passed (m n : Binding) (masks : List ℕ) (lost : ℕ) (b c : List ℕ) (k : ℕ) : Type 0 where
-  pub tight : Tight m n b c
-  pub backs : (t p o : ℕ) → t < k → Rests m masks b lost t → p < length (m.scope t) → Open c (slice_index (m.scope t) p) o → Held m b t p o
+-- some option that b opens is closed in c
+pub record Loses (b c : List ℕ) : Type 0 where
+  pub slot : ℕ
+  pub option : ℕ
+  pub was : Open b slot option
+  pub gone : Open c slot option → ⊥

@@ -1,5 +1,5 @@
 // Asks a binder which slots its sheets name, and the table which sheets name a slot of a set.
-ghost use Rattle.std.specs.Prelude.{ℕ, Decides, slice_index};
+ghost use Rattle.std.specs.Prelude.{◌≡◌, ℕ, Decides, slice_index};
 ghost use Rattle.boxes.specs.Slots.{Disjoint};
 ghost use Rattle.settle.specs.Reach.{masks_of, Named};
 
@@ -32,10 +32,17 @@ impl Reach {
         Reach { masks }
     }
 
+    // The slots that a sheet names; none where there is no such sheet.
+    pub(crate) fn mask(&self, sheet: usize) -> u64
+        ensures { result ≡ slice_index self.now.masks sheet }
+    {
+        self.masks.get(sheet).copied().unwrap_or(0)
+    }
+
     // Whether a sheet names no slot of a set.
     pub(crate) fn spares(&self, sheet: usize, set: u64) -> bool
         ensures { Decides result (Disjoint (slice_index self.now.masks sheet) set) }
     {
-        apart(self.masks.get(sheet).copied().unwrap_or(0), set)
+        apart(self.mask(sheet), set)
     }
 }

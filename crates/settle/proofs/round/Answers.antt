@@ -1,16 +1,15 @@
-use Rattle.std.proofs.Common.{◌<◌, arith}
-use Rattle.settle.proofs.Tight.{passed_none, passed_more}
-use Rattle.settle.proofs.Ways.{by_ways}
+use Rattle.std.proofs.Common.{◌+◌}
+use Rattle.settle.proofs.Passing.{passed_none, passed_next}
 use Rattle.settle.proofs.round.Goals as goal
 
 pub loop-sheet-init : goal.loop-sheet-init
-loop-sheet-init g c = passed_none _ _ _ _
+loop-sheet-init g c = record { passed = passed_next _ _ _ _ _ _ _ 0 _ _ (passed_none _ _ _ _ c.requires) (rw c.lost.ensures at c.next-sheet.ensures); few = c.next-sheet.ensures.few }
+
+pub returns-then-not-alive-clause-tight : goal.returns-then-not-alive-clause-tight
+returns-then-not-alive-clause-tight g c = (c.ask.ensures _ _ _ c.loop-sheet.invariant.passed).tight
 
 pub loop-sheet-preserved : goal.loop-sheet-preserved
-loop-sheet-preserved g c =
-    let m = g.B.Binder.meaning in
-    let was = c.loop-sheet.invariant in
-    let hs : c.loop-sheet.sheet < (m c.args.binder.now).count = omega (arith, c.loop-sheet-test.true, c.sheets-count.ensures) in
-    by_ways c.show.result _ _ c.show.ensures
-    (λ _ done. passed_more _ _ _ _ _ _ _ _ c.loop-sheet.sheet hs was done.1)
-    (λ _ not. absurd (omega (arith, not.1, was.tight.framed.sheets.count)))
+loop-sheet-preserved g c = record {
+  passed = passed_next _ _ _ _ _ _ _ (c.loop-sheet.sheet + 1) _ _ (c.ask.ensures _ _ _ c.loop-sheet.invariant.passed) (rw c.lost-in-loop-sheet.ensures at c.next-sheet-in-loop-sheet.ensures);
+  few = c.next-sheet-in-loop-sheet.ensures.few;
+}
