@@ -16,7 +16,7 @@ use std::io::{ErrorKind, Read, Write};
 // Each accepted file is read whole, and one that is cut has too many bytes to be accepted.
 const _: () = prove!(LIMIT > LONGEST);
 
-// TextOf what the bytes of a file hold or what is wrong with them; and where they are a catalogue, answers the lines of the
+// Says what the bytes of a file hold or what is wrong with them; and where they are a catalogue, answers the lines of the
 // input.
 fn tell<R: Read, W: Write, A: Allocator + Copy>(
     alloc: A,
@@ -41,7 +41,7 @@ fn tell<R: Read, W: Write, A: Allocator + Copy>(
     }
 }
 
-// TextOf what a file holds or what is wrong with it, and where it is a catalogue, answers the lines of the input as they come.
+// Says what a file holds or what is wrong with it, and where it is a catalogue, answers the lines of the input as they come.
 // Of the file and of the input the first 65,536 bytes are read. A file that was not found counts as empty; where it could not
 // be opened for another reason, nothing is read or written. Any other error is one of memory, of reading or of writing; when one
 // comes and which, how much was taken of the input and how much was written before it, is left free.

@@ -12,6 +12,10 @@ use std::alloc::Allocator;
 use std::io;
 use std::io::{Read, Write};
 
+// How much one read brings at most. A batch then has no more than 4,096 lines, and its calls, replies and words never take
+// more than a mebibyte; those of a batch as long as the whole buffer would take over ten.
+const PART: usize = 4096;
+
 // Answers the lines of some input, and writes what is said in one go. Where there are none, nothing is written.
 fn speak<B: Binder + Drop, W: Write, A: Allocator + Copy>(
     alloc: A,
@@ -34,7 +38,7 @@ fn goes_on(came: usize, to: usize) -> bool
     came > 0 && to < LIMIT
 }
 
-// One read into the part of a buffer behind its first bytes, and these stay.
+// One read into a part of a buffer behind its first bytes, and these stay.
 fn read_behind<R: Read>(input: &mut R, buffer: &mut [u8], behind: usize) -> io::Result<usize>
     requires { behind ≤ length buffer.old }
     ensures within { IfOk result (λ n. behind + n ≤ length buffer.new) }
@@ -42,7 +46,8 @@ fn read_behind<R: Read>(input: &mut R, buffer: &mut [u8], behind: usize) -> io::
     ensures taken { IfOk result (λ n. Consumes (R.remaining input.old) (R.remaining input.new) (take n (drop behind buffer.new))) }
     ensures end { IfOk result (λ n. n ≡ 0 → behind < length buffer.old → IsAtEnd (R.remaining input.new)) }
 {
-    read_some(input, &mut buffer[behind..])
+    let end = behind + PART.min(buffer.len() - behind);
+    read_some(input, &mut buffer[behind..end])
 }
 
 // Answers the lines of the first bytes of an input as they come, each batch of whole lines in one go, and at the end the
