@@ -1,5 +1,6 @@
 // A batch of lines: its calls, their replies, and the words of these.
 ghost use Rattle.std.specs.Prelude.{◌≡◌, ◌++◌, IfOk, OnOk, vec_items};
+ghost use Rattle.std.specs.String.{string_bytes};
 ghost use Rattle.dialogue.specs.Talk.{calls_in, reply_lines, reply_line, Answered};
 
 use binder::binders::Binder;
@@ -8,7 +9,6 @@ use commands::parse::parse;
 use session::state::Session;
 use std::alloc::{AllocError, Allocator};
 use std::io;
-use std::io::Write;
 use subject::answer::Reply;
 use subject::call::Call;
 use subject::denial::Denial;
@@ -22,8 +22,8 @@ fn calls_in<A: Allocator>(alloc: A, input: &[u8]) -> Result<Vec<Option<Call>, A>
 
 // Puts the words of a reply and a line end behind the text. An answer and a denial print by their own `Display`: a type
 // over the two would be no plainer.
-fn put<A: Allocator>(reply: &Reply, text: &mut Vec<u8, A>) -> io::Result<()>
-    ensures { OnOk result (text.new.items ≡ text.old.items ++ reply_line reply.now) }
+fn put<A: Allocator>(reply: &Reply, text: &mut String<A>) -> Result<(), AllocError>
+    ensures { OnOk result (string_bytes text.new ≡ string_bytes text.old ++ reply_line reply.now) }
 {
     match reply {
         Ok(answer) => writeln!(text, "{answer}"),
@@ -31,15 +31,16 @@ fn put<A: Allocator>(reply: &Reply, text: &mut Vec<u8, A>) -> io::Result<()>
     }
 }
 
-// The words of the replies, a line for each.
+// The words of the replies, a line for each. They are gathered as text: a writer of bytes goes through an adapter at each
+// piece, and a plan has as many pieces as slots.
 fn words_of<A: Allocator>(alloc: A, replies: &[Reply]) -> io::Result<Vec<u8, A>>
     ensures { IfOk result (λ words. vec_items words ≡ reply_lines replies.now) }
 {
-    let mut text = Vec::new(alloc);
+    let mut text = String::new(alloc);
     for reply in replies {
         put(reply, &mut text)?;
     }
-    Ok(text)
+    Ok(text.into_bytes())
 }
 
 // Answers the lines of some input, and says it in words. An error is one of memory; when one comes is left free.
