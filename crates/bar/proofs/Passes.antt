@@ -1,16 +1,29 @@
 -- The steps of the counting loops. Assumes nothing.
-use Rattle.std.proofs.Common.{◌≡◌, ℕ, ◌+◌, ◌*◌, ◌%◌, ◌^◌, ◌<◌, ◌≤◌, List, [], ◌++◌, length, get_or, take, drop, set, replicate, sym, ap, refl, ◌∙◌, subst, ⊎_elim, arith, length-drop, get_or-set_other, get_or-set_same, below_more, w32}
+use Rattle.std.proofs.Common.{◌≡◌, ℕ, ◌+◌, ◌*◌, ◌/◌, ◌%◌, ◌^◌, ◌<◌, ◌≤◌, nat_eq, nat_lt, bit_and, List, [], ◌++◌, length, get_or, take, drop, set, replicate, Decides, sym, ap, refl, ◌∙◌, subst, ⊎_elim, arith, length-drop, get_or-set_other, get_or-set_same, below_more, w32}
 use lib.Bits.{bit_or}
 use lib.Count.{ones}
 use Rattle.std.proofs.lemmas.Nat.Bits.{bit_at-zero, bit_at_set_same, bit_at_set_other}
 use Rattle.std.proofs.lemmas.List.{get_or-replicate, drop_at, drop-drop, drop-append-le, take-append-le, length-append}
-use Rattle.std.proofs.lemmas.Bool.{cases_eq}
+use Rattle.std.proofs.lemmas.Nat.{and_mask}
+use Rattle.std.proofs.lemmas.Bool.{cases_eq, eqb-true, eq-eqb, ltb-true}
 use Rattle.boxes.specs.Boxes.{Open, Fits, Bit}
+use Rattle.boxes.proofs.Bits.{open_low}
 use Rattle.sheets.specs.Tables.{row_at}
 use Rattle.bar.specs.Counted.{HowMany, product}
 use Rattle.bar.specs.Tally.{Measures, Bears, Tallied, Fewer, Room, Marks}
 use Rattle.bar.proofs.Bitcount.{counts_ones}
 use Rattle.bar.proofs.Counting.{counts_none, counts_yes, counts_no, counts_same}
+
+-- a bit of a cell, as the code tests it
+pub shifted : (b : List ℕ) (s o : ℕ) → o < 32 → Decides (nat_eq (bit_and (get_or b s 0 / 2 ^ o) 1) 1) (Open b s o)
+unfolding Open
+shifted b s o low = (
+  λ t. (low, sym (and_mask (get_or b s 0 / 2 ^ o) 1) ∙ eqb-true (bit_and (get_or b s 0 / 2 ^ o) 1) 1 t),
+  λ k. eq-eqb (bit_and (get_or b s 0 / 2 ^ o) 1) 1 (and_mask (get_or b s 0 / 2 ^ o) 1 ∙ k.1),
+)
+
+pub shut : (b : List ℕ) (s o : ℕ) → 32 ≤ o → Decides (nat_lt o 32) (Open b s o)
+shut b s o h = (λ t. absurd (omega (arith, ltb-true o 32 t)), λ k. absurd (omega (arith, open_low b s o k)))
 
 -- row r is nine bytes of the entries, and the next row is behind it
 module _ (entries rest row next : List ℕ) (r : ℕ) (here : rest ≡ drop (9 * r) entries) (cut : rest ≡ row ++ next) (nine : length row ≡ 9) where

@@ -1,7 +1,8 @@
 -- The product of the other sizes, factor by factor. Assumes nothing.
-use Rattle.std.proofs.Common.{◌≡◌, ℕ, zero, suc, ◌+◌, ◌*◌, ◌^◌, ◌<◌, ◌≤◌, List, [], ◌∷◌, length, get_or, take, drop, set, sym, refl, ap, ◌∙◌, subst, mul_assoc, one-mul, arith, length-set, get_or-set_other, get_or-set_same}
+use Rattle.std.proofs.Common.{◌≡◌, ℕ, zero, suc, ◌+◌, ◌*◌, ◌^◌, ◌<◌, ◌≤◌, List, [], ◌∷◌, length, get_or, take, drop, set, sym, refl, ap, ◌∙◌, subst, mul_assoc, one-mul, arith, length-set, length-drop, ⊎_elim, mul-one, get_or-set_other, get_or-set_same}
 use native.Mathlib.Nat.{pow-le-pow_right}
-use Rattle.std.proofs.lemmas.List.{at_drop_more}
+use Rattle.std.proofs.lemmas.Bool.{cases_eq}
+use Rattle.std.proofs.lemmas.List.{at_drop_more, get_or-drop}
 use Rattle.std.proofs.lemmas.Nat.{mul-le, pow-add}
 use Rattle.bar.specs.Counted.{product}
 
@@ -61,3 +62,17 @@ product_front (x ∷ xs) (suc k) zero h f = ap (λ n. 1 * n) (front xs k (λ p l
     front [] (suc k) f = refl
     front (x ∷ xs) (suc k) f = ap (λ n. x * n) (front xs k (λ p l q. f (suc p) (omega arith) (omega arith)))
 product_front (x ∷ xs) (suc k) (suc position) h f = ap (λ n. x * n) (product_front xs k position (omega arith) (λ p l q. f (suc p) (omega arith) (omega arith)))
+
+-- where the sizes behind the first n are 1, the first n give the whole product
+module _ (sizes : List ℕ) (position n many : ℕ) (was : Multiplied sizes position n many) (past : (p : ℕ) → n ≤ p → p < length sizes → get_or sizes p 0 ≡ 1) where
+  one_past : (p : ℕ) → n ≤ p → p < length sizes → get_or (set sizes position 1) p 0 ≡ 1
+  one_past p h l = ⊎_elim
+      (λ e. ap (λ k. get_or (set sizes position 1) k 0) e ∙ get_or-set_same sizes position 1 0 (omega arith))
+      (λ ne. get_or-set_other sizes position p 1 0 ne ∙ past p h l)
+      (cases_eq p position)
+
+  pub multiplied_whole : many ≡ product (set sizes position 1)
+  multiplied_whole =
+      let rest : product (drop n (set sizes position 1)) ≡ 1 = product_ones (drop n (set sizes position 1))
+      (λ p h. get_or-drop n (set sizes position 1) p 0 ∙ one_past (n + p) (omega arith) (omega (arith, length-drop n (set sizes position 1), length-set sizes position 1))) in
+      sym (ap (λ k. many * k) rest ∙ mul-one many) ∙ was.product

@@ -145,7 +145,7 @@ module _ (b scope entries ns : List ℕ) (total : ℕ)
 pub backs : (b scope entries sizes : List ℕ) (counts : List (List ℕ)) (masks : List ℕ) (total : ℕ) → length scope ≤ 8 → length sizes ≡ 8 → RowsApart entries (length scope) total
     → ((p : ℕ) → p < 8 → Measures b scope p (get_or sizes p 0))
     → ((p o : ℕ) → p < length scope → o < 32 → HowMany (Bears b scope entries p o) total (get_or (get_or counts p []) o 0))
-    → ((p : ℕ) → p < 8 → Marks (Room (get_or counts p []) sizes p) 32 (get_or masks p 0))
+    → ((p : ℕ) → p < length scope → Marks (Room (get_or counts p []) sizes p) 32 (get_or masks p 0))
     → Backs b scope entries total masks
 backs b scope entries sizes counts masks total short eight apart each tallied marked =
     let ns = take (length scope) sizes in
@@ -157,11 +157,11 @@ backs b scope entries sizes counts masks total short eight apart each tallied ma
     record {
       sound = λ p o hp here h.
           spared_if b scope entries (take (length scope) sizes) total apart z p o (get_or (get_or counts p []) o 0) hp here (tallied p o hp (open_low b (get_or scope p 0) o here))
-          (let room = ((marked p (omega arith)).sound o h).1.room in omega (arith, room, front p hp));
+          (let room = ((marked p hp).sound o h).1.room in omega (arith, room, front p hp));
       complete = λ p o hp s.
           let here : Open b (get_or scope p 0) o = subst (Open b (get_or scope p 0)) s.holds (s.fits.each p hp) in
           let low : o < 32 = open_low b (get_or scope p 0) o here in
-          (marked p (omega arith)).complete o low (record {
+          (marked p hp).complete o low (record {
             room =
                 let less = spared_only_if b scope entries (take (length scope) sizes) total apart z p o (get_or (get_or counts p []) o 0) hp here (tallied p o hp low) s in
                 omega (arith, less, front p hp);

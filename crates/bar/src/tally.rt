@@ -1,11 +1,12 @@
 // Finds by counting which options of a bar sheet's scope are supported: those that some list has which
 // fits the box and is not among the rows. Rows are all different, so such a list is left exactly where
 // fewer fitting rows have the option than there are fitting lists that do.
-ghost use Rattle.std.specs.Prelude.{◌≡◌, ℕ, ◌/◌, ◌<◌, ◌≤◌, [], length, slice_index, slice_index_or, slice_set};
+ghost use Rattle.std.specs.Prelude.{◌≡◌, ℕ, ◌/◌, ◌<◌, ◌≤◌, [], length, replicate, Decides, slice_index, slice_index_or, slice_set};
+ghost use Rattle.boxes.specs.Boxes.{Open, Fits};
 ghost use Rattle.bar.specs.Counted.{HowMany, product};
 ghost use Rattle.bar.specs.Tally.{Measures, Bears, Tallied, Fewer, Room, Marks, RowsApart, Backs};
 
-use boxes::OptionBox;
+use boxes::{OPTIONS, OptionBox};
 use sheets::scope::Scope;
 use sheets::sheet::{ROW, Sheet};
 use std::array;
@@ -23,18 +24,24 @@ fn size_at(scope: &Scope, slate: &OptionBox, position: usize) -> u64
 // How many options are open at each position of a scope, and 1 at each position past its last.
 #[derive(Drop)]
 struct Sizes {
-    // An array, since the library uses no heap; no length stands beside it, since a size of 1 changes no product.
+    // An array, since the library uses no heap. A size of 1 changes no product, so products stop at the scope's last
+    // position: a showing of a sheet that names few slots does no work for those that it does not name.
     each: [u64; 8],
+    arity: usize,
     ghost long: { length each ≡ 8 },
     ghost low: { (p : ℕ) → p < 8 → slice_index each p ≤ 32 },
+    ghost short: { arity ≤ 8 },
+    ghost past: { (p : ℕ) → arity ≤ p → p < 8 → slice_index each p ≡ 1 },
 }
 
 impl Sizes {
     fn of(scope: &Scope, slate: &OptionBox) -> Sizes
-        ensures { (p : ℕ) → p < 8 → Measures slate.now.cells scope.now.slots.now p (slice_index result.each p) }
+        ensures each { (p : ℕ) → p < 8 → Measures slate.now.cells scope.now.slots.now p (slice_index result.each p) }
+        ensures arity { result.arity ≡ length scope.now.slots.now }
     {
         Sizes {
             each: array::from_fn(|position| size_at(scope, slate, position)),
+            arity: scope.slots.len(),
         }
     }
 
@@ -45,13 +52,37 @@ impl Sizes {
         ensures { result ≡ product (slice_set self.now.each position 1) }
     {
         let mut many = 1;
-        for (place, size) in self.each.iter().enumerate() {
+        for (place, size) in self.each[..self.arity].iter().enumerate() {
             if place != position {
                 many *= *size;
             }
         }
         many
     }
+}
+
+// Whether an option is open at a slot that a box covers.
+#[tactic(auto, using(crate::proofs::Passes::shifted, crate::proofs::Passes::shut))]
+fn opens(slate: &OptionBox, slot: u8, option: u8) -> bool
+    requires { slot < 48 }
+    ensures { Decides result (Open slate.now.cells slot option) }
+{
+    option < OPTIONS && (slate.cells[usize::from(slot)] >> option) & 1 == 1
+}
+
+// Whether a row fits the box, as `Scope::fits` answers it. A showing asks it of every row, and most of its time goes here:
+// the slots of a scope are covered, so this does not ask for each option again whether the box has its slot.
+fn fits(scope: &Scope, slate: &OptionBox, row: &[u8]) -> bool
+    requires { length row.now ≡ length scope.now.slots.now }
+    ensures { Decides result (Fits slate.now.cells scope.now.slots.now row.now) }
+{
+    // With `all` over a `zip`, as there, the proof did not see that each slot is one of the scope's.
+    for (position, slot) in scope.slots.iter().enumerate() {
+        if !opens(slate, *slot, row[position]) {
+            return false;
+        }
+    }
+    true
 }
 
 // The options that are counted fewer than `many` times.
@@ -80,22 +111,20 @@ struct Tally {
 }
 
 impl Tally {
-    // Of the rows of a sheet that fit the box, how many have each option at each position.
-    fn of(sheet: &Sheet, slate: &OptionBox) -> Tally
-        requires { length sheet.now.entries.now / 9 ≤ 65536 }
+    // Counts the rows of a sheet that fit the box, from none on. The table is filled where it stands: one that is handed
+    // out is copied, which takes longer than the rest of a showing of one slot.
+    fn count(&mut self, sheet: &Sheet, slate: &OptionBox)
+        requires few { length sheet.now.entries.now / 9 ≤ 65536 }
+        requires none { self.old.counts ≡ replicate 8 (replicate 32 0) }
         ensures { (p o : ℕ) → p < length sheet.now.scope.slots.now → o < 32
-            → HowMany (Bears slate.now.cells sheet.now.scope.slots.now sheet.now.entries.now p o) (length sheet.now.entries.now / 9) (slice_index (slice_index_or result.counts p []) o) }
+            → HowMany (Bears slate.now.cells sheet.now.scope.slots.now sheet.now.entries.now p o) (length sheet.now.entries.now / 9) (slice_index (slice_index_or self.new.counts p []) o) }
     {
-        let mut tally = Tally {
-            counts: [[0; 32]; 8],
-        };
         for row in sheet.entries.chunks_exact(ROW) {
             let options = &row[1..=sheet.scope.slots.len()];
-            if sheet.scope.fits(slate, options) {
-                tally.add(options);
+            if fits(&sheet.scope, slate, options) {
+                self.add(options);
             }
         }
-        tally
     }
 
     // Counts a row once at each position, under the option that it has there.
@@ -112,11 +141,16 @@ impl Tally {
         }
     }
 
-    // At each position, the options that are counted fewer times than there are lists that have them.
+    // At each position of the scope, the options that are counted fewer times than there are lists that have them. Past
+    // its last position no slot takes them, so nothing is compared there.
     fn masks(&self, sizes: &Sizes) -> [u32; 8]
-        ensures { (p : ℕ) → p < 8 → Marks (Room (slice_index_or self.now.counts p []) sizes.now.each p) 32 (slice_index result p) }
+        ensures { (p : ℕ) → p < sizes.now.arity → Marks (Room (slice_index_or self.now.counts p []) sizes.now.each p) 32 (slice_index result p) }
     {
-        array::from_fn(|position| mask_of(&self.counts[position], sizes.others(position)))
+        let mut masks = [0; 8];
+        for position in 0..sizes.arity {
+            masks[position] = mask_of(&self.counts[position], sizes.others(position));
+        }
+        masks
     }
 }
 
@@ -127,5 +161,9 @@ pub(crate) fn supports(sheet: &Sheet, slate: &OptionBox) -> [u32; 8]
     ensures { Backs slate.now.cells sheet.now.scope.slots.now sheet.now.entries.now (length sheet.now.entries.now / 9) result }
 {
     let sizes = Sizes::of(&sheet.scope, slate);
-    Tally::of(sheet, slate).masks(&sizes)
+    let mut tally = Tally {
+        counts: [[0; 32]; 8],
+    };
+    tally.count(sheet, slate);
+    tally.masks(&sizes)
 }
