@@ -24,16 +24,18 @@ fn write_plan(options: &[u8], memory: &mut [u8])
 
 impl<B: Binder> Planner<B> {
     // Begins a walk, which uses the planner up.
-    pub fn begin(mut self) -> Walk<B>
+    pub fn begin(self) -> Walk<B>
         ensures { (P : Problem) (L : Log) → After B.Binder.meaning P L self → Walking B.Binder.meaning P (begin_entry ∷ L) result }
     {
-        save(&mut self.binder);
         let stack = Stack::new(self.slate);
-        Walk {
+        let mut walk = Walk {
             planner: self,
             stack,
             state: State::Fresh,
-        }
+        };
+        // The mark is made where the planner lies in the walk, and undone there at the end, so that it is copied less often.
+        save(&mut walk.planner.binder);
+        walk
     }
 }
 
@@ -78,12 +80,8 @@ impl<B: Binder> Walk<B> {
     pub fn end(self) -> Planner<B>
         ensures { (P : Problem) (L : Log) → Walking B.Binder.meaning P L self → After B.Binder.meaning P (end_entry ∷ L) result }
     {
-        let Walk {
-            mut planner,
-            stack,
-            ..
-        } = self;
-        stack.leave(&mut planner.binder);
-        planner
+        let mut walk = self;
+        walk.stack.leave(&mut walk.planner.binder);
+        walk.planner
     }
 }
