@@ -1,5 +1,6 @@
 pub mod Sifting
 pub mod Rowing
+pub mod Places
 pub mod Masking
 pub mod Marking
 pub mod Showing

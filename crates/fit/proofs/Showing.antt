@@ -14,7 +14,7 @@ use Rattle.fit.specs.Runs.{Among, Sifted}
 use Rattle.fit.specs.Rows.{Suits, Whole, Low, Gathered}
 use Rattle.fit.specs.Laid.{scope_shown, entries_of, row_count, row_of, Laid}
 use Rattle.fit.specs.Meaning.{Keeps, keeps, kept_at, fitting, Exact, scope_here, keeps_decides, kept_decides, from_T, to_T}
-use Rattle.fit.proofs.Sifting.{Mixed, SiftedRun, HoldsRun, sifted_part, lies_left}
+use Rattle.fit.proofs.Sifting.{Mixed, SiftedRun, HoldsRun, lies_mid, sifted_part, lies_left}
 use Rattle.fit.proofs.Rowing.{suits_at, row_there, fits_row, suits_row, option_row}
 
 -- tests of the same are the same
@@ -37,6 +37,25 @@ pub at_sheet : (a a' e e' : List ℕ) (P : List ℕ → List ℕ → Type 0) →
 at_sheet a a' e e' P p q h = subst (λ y. P a' y) q (subst (λ y. P y e) p h)
 
 module _ (views : List View) (count : ℕ) (starts order counts : List ℕ) (saved : List (List ℕ)) (marks : ℕ) (x : Laid views count starts order counts saved marks) (s : ℕ) (hs : s < count) where
+  -- what a sift asks of the run, which holds rows of the sheet
+  module _ (k : ℕ) (all : k ≡ get_or counts s 0) (room : length order ≡ 4096) where
+    row_known : (p : ℕ) → p < length (mid_of (get_or starts s 0) k order) → get_or (mid_of (get_or starts s 0) k order) p 0 < row_count views s
+    row_known p h =
+        let at = lies_mid order (get_or starts s 0) k (get_or counts s 0) all (omega (arith, x.room s hs, x.within s hs)) in
+        let lt : p < get_or counts s 0 = omega (arith, at.long) in
+        subst (λ (v : ℕ). v < row_count views s) (at.at p lt) (x.rows s p hs (omega (arith, x.within s hs)))
+
+    pub whole_before : Whole (mid_of (get_or starts s 0) k order) (entries_of views s)
+    whole_before = record { each = λ p h. row_there views s (get_or (mid_of (get_or starts s 0) k order) p 0) (row_known p h) }
+
+    pub low_before : Low (mid_of (get_or starts s 0) k order) (entries_of views s) (length (scope_shown views s))
+    low_before =
+        record {
+          each = λ q p hq hp.
+              let r : ℕ = get_or (mid_of (get_or starts s 0) k order) q 0 in
+              omega (arith, option_row views s r p hp, x.sound.options s r p hs (row_known q hq) hp);
+        }
+
   -- a sift of the run, by what the code read of the sheet
   module _ (b next scope entries : List ℕ) (k left : ℕ) (is_scope : scope ≡ scope_shown views s) (is_entries : entries ≡ entries_of views s) (all : k ≡ get_or counts s 0) (room : length order ≡ 4096)
       (sifted : Sifted (Suits b scope entries) (mid_of (get_or starts s 0) k order) next left) where

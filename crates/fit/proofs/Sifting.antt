@@ -76,6 +76,10 @@ module _ (Good : ℕ → Type 0) (xs : List ℕ) where
     pub sifting_from : (p : ℕ) → p < length xs → InFront xs (length xs) (get_or ys p 0)
     sifting_from p h = s.back (get_or ys p 0) (record { place = p; below = h; is = refl })
 
+    -- so what the numbers of the rows are known to be is known of each place still
+    pub sifting_each : (P : ℕ → Type 0) → ((p : ℕ) → p < length xs → P (get_or xs p 0)) → (p : ℕ) → p < length xs → P (get_or ys p 0)
+    sifting_each P f p h = let a = sifting_from p h in subst P a.is (f a.place a.below)
+
 -- ys has on the n places from `from` on what xs has there, in some order, and so on each longer run; elsewhere it is as xs
 pub record Mixed (xs ys : List ℕ) (from n : ℕ) : Type 0 where
   pub into : (v m : ℕ) → n ≤ m → Among xs from m v → Among ys from m v

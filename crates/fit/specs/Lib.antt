@@ -1,4 +1,5 @@
 pub mod Runs
 pub mod Rows
+pub mod Positions
 pub mod Laid
 pub mod Meaning

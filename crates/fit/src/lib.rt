@@ -9,6 +9,8 @@ use sheets::table::SheetTable;
 pub mod calls;
 mod dropping;
 pub mod filling;
+mod positions;
+mod rows;
 mod support;
 
 // The rows that a sheet keeps are a sparse set: the front of a run of places that hold row numbers. Each

@@ -1,33 +1,46 @@
-use Rattle.std.proofs.Common.{ℕ, ◌+◌, arith}
-use Rattle.fit.proofs.Masking.{passing_none, passing_option, passing_full, passing_row, passed_all, passed_full}
-use Rattle.fit.proofs.support.supports.Goals.{then-position-done+then-masks-position+else-done-slots, else-position-done}
+use Rattle.std.proofs.Common.{◌≡◌, ap, ◌∙◌, arith}
+use Rattle.fit.proofs.Masking.{ahead_all, ahead_next, block_ahead, passed_first, passing_start, passing_more, passing_full, passing_end, passed_full}
 use Rattle.fit.proofs.support.supports.Goals as goal
 
 pub rows-init : goal.rows-init
-rows-init c = passing_none _ _ _ _ _
+rows-init c =
+    let gives = c.into_iter-block-iterator.ensures.into_iter_gives in
+    let all : c.into_iter-block-iterator.result.rest.now ≡ c.args.rows.now = ap (λ s. s.rest.now) gives ∙ c.chunks-block-items.ensures.rest in
+    (omega (arith, ap (λ s. s.size) gives, c.chunks-block-items.ensures.size), tt, ahead_all _ _ all, passed_first _ _ _ _ _ _ _ all c.first-wanted.ensures)
 
-pub loop-position-preserved : goal.loop-position-preserved
-loop-position-preserved c =
-    let p : ℕ = c.loop-position.position in
-    let done : ℕ = c.loop-position.done in
-    let more = passing_option _ _ _ _ _ c.row-option-items.result.now c.rows.row-index c.args.sheet.now.scope.short c.requires.whole c.requires.low c.rows-test.true c.row-option-items.ensures _ p done c.loop-position-test.true c.loop-position.invariant in
-    elim c.if-position-done.branch [
-      | then-position-done+then-masks-position+else-done-slots w ↦
-          rw w.done-is (passing_full _ _ _ _ _ _ c.rows.row-index p (p + 1) done w.if-position-done.true w.if-masks-position.true more)
-      | else-position-done w ↦ rw w.done-is more
-    ]
+pub positions-init : goal.positions-init
+positions-init c =
+    let x = c.rows.invariant in
+    (tt, tt, passing_start _ _ _ _ _ _ _ c.in-Some.block.now _ _ _ x.2 c.in-Some.ensures.steps.1.0 (ap (λ s. s.bits) c.into_iter-position-iterator.ensures.into_iter_gives) x.3)
 
 pub rows-preserved : goal.rows-preserved
 rows-preserved c =
-    passing_row _ _ _ _ _ c.row-option-items.result.now c.rows.row-index c.args.sheet.now.scope.short c.requires.whole c.requires.low c.rows-test.true c.row-option-items.ensures _ c.loop-position.position c.loop-position.done c.loop-position-test.false c.loop-position.invariant
+    let x = c.rows.invariant in (
+      omega (arith, x.0, c.in-Some.ensures.steps.0),
+      tt,
+      ahead_next _ _ c.in-Some.block.now _ x.2 c.in-Some.ensures.steps.1.0,
+      passing_end _ _ _ _ _ _ _ _ _ _ c.in-None-position.ensures.steps.0 c.positions.invariant.2,
+    )
 
-pub returns-after-rows : goal.returns-after-rows
-returns-after-rows c = passed_all _ _ _ _ _ _ c.rows.row-index c.rows.done (omega (arith, c.rows.auto.row-index-end, c.rows-test.false)) c.rows.invariant
+pub without-wanted-requires : goal.without-wanted-requires
+without-wanted-requires c =
+    let p = c.positions.invariant.2 in
+    let lt = p.known _ (p.among _ c.in-Some-position.ensures.steps.here) in omega (arith, lt, c.args.sheet.now.scope.short)
 
-pub returns-then-done-slots : goal.returns-then-done-slots
-returns-then-done-slots c =
-    let p : ℕ = c.loop-position.position in
-    let done : ℕ = c.loop-position.done in
-    let more = passing_option _ _ _ _ _ c.row-option-items.result.now c.rows.row-index c.args.sheet.now.scope.short c.requires.whole c.requires.low c.rows-test.true c.row-option-items.ensures _ p done c.loop-position-test.true c.loop-position.invariant in
-    passed_full _ _ _ _ _ _ c.rows.row-index (p + 1) (done + 1) c.rows-test.true (omega (arith, c.if-done-slots.true))
-    (passing_full _ _ _ _ _ _ c.rows.row-index p (p + 1) done c.if-position-done.true c.if-masks-position.true more)
+pub positions-preserved : goal.positions-preserved
+positions-preserved c =
+    let x = block_ahead _ _ c.in-Some.block.now _ c.rows.invariant.2 c.in-Some.ensures.steps.1.0 in
+    (tt, tt, passing_more _ _ _ _ _ _ c.in-Some.block.now _ _ _ _ _ _ _ c.args.sheet.now.scope.short c.in-Some-position.ensures.steps x c.held_at.ensures c.positions.invariant.2)
+
+pub positions-preserved-else-is_empty : goal.positions-preserved-else-is_empty
+positions-preserved-else-is_empty c =
+    let x = block_ahead _ _ c.in-Some.block.now _ c.rows.invariant.2 c.in-Some.ensures.steps.1.0 in
+    let more = passing_more _ _ _ _ _ _ c.in-Some.block.now _ _ _ _ _ _ _ c.args.sheet.now.scope.short c.in-Some-position.ensures.steps x c.held_at.ensures c.positions.invariant.2 in
+    (tt, tt, passing_full _ _ _ _ _ _ _ _ _ _ _ _ c.in-Some-position.ensures.steps.rest.gone c.without-wanted.ensures c.if-masks-position.true more)
+
+pub returns-then-is_empty : goal.returns-then-is_empty
+returns-then-is_empty c =
+    let x = block_ahead _ _ c.in-Some.block.now _ c.rows.invariant.2 c.in-Some.ensures.steps.1.0 in
+    let more = passing_more _ _ _ _ _ _ c.in-Some.block.now _ _ _ _ _ _ _ c.args.sheet.now.scope.short c.in-Some-position.ensures.steps x c.held_at.ensures c.positions.invariant.2 in
+    let done = passing_full _ _ _ _ _ _ _ _ _ _ _ _ c.in-Some-position.ensures.steps.rest.gone c.without-wanted.ensures c.if-masks-position.true more in
+    passed_full _ _ _ _ _ _ _ _ _ _ x.within (c.is_empty.ensures.0 c.if-is_empty.true) done

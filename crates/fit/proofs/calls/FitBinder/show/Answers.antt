@@ -2,8 +2,22 @@ use Rattle.std.proofs.Common.{◌+◌, ◌-◌, length, get_or, take, sym, ap, s
 use borrow.Rule.Slice.PartMut.{mid_of, put_mid}
 use Rattle.fit.specs.Rows.{Whole, Low, Gathered}
 use Rattle.fit.specs.Meaning.{laid_out}
-use Rattle.fit.proofs.Showing.{sifted_here, left_here, laid_sifted, whole_after, low_after, exact, shown, at_sheet, narrowed_all}
+use Rattle.fit.proofs.Showing.{whole_before, low_before, sifted_here, left_here, laid_sifted, whole_after, low_after, exact, shown, at_sheet, narrowed_all}
 use Rattle.fit.proofs.calls.FitBinder.show.Goals as goal
+
+pub sift-left-requires : goal.sift-left-requires
+sift-left-requires c =
+    let s = c.args.self.now in
+    let x = laid_out _ _ _ _ _ _ _ s.laid in
+    let hs = c.in_ok-shown.ensures.0 in
+    let scope = ap (λ v. v.scope) c.in_ok-shown.ensures.1 in
+    let entries = ap (λ v. v.entries) c.in_ok-shown.ensures.1 in
+    let from = get_or s.starts c.args.sheet 0 in
+    let k = from + get_or s.counts c.args.sheet 0 - from in
+    record {
+      whole = subst (Whole _) (sym entries) (whole_before _ _ _ _ _ _ _ x _ hs k (omega arith) (omega arith));
+      low = at_sheet _ _ _ _ (λ sc es. Low (mid_of from k s.order) es (length sc)) (sym scope) (sym entries) (low_before _ _ _ _ _ _ _ x _ hs k (omega arith) (omega arith));
+    }
 
 pub supports-masks-requires : goal.supports-masks-requires
 supports-masks-requires c =
